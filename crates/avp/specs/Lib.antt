@@ -1,0 +1,4 @@
+pub mod Octets
+pub mod Header
+pub mod Names
+pub mod Fields
