@@ -1,7 +1,7 @@
 ghost use mathlib.Core.Path.{_≡_};
 ghost use Rattle.avp.specs.Fields.{allows, keyIn, numberIn, ranged, valueOf, valueOfResult};
 ghost use Rattle.avp.specs.Header.{mandatory, seen};
-ghost use Rattle.avp.specs.Names.{nameOf};
+ghost use Rattle.avp.specs.Names.{codeOf, nameOf, vendorOf};
 ghost use Rattle.avp.specs.Octets.{u32At, u64At};
 use crate::field::Field;
 use crate::field::Limits;
@@ -30,6 +30,42 @@ impl Name {
             (1068, Some(10415)) => Some(Name::UsageMonitoringLevel),
             (1069, Some(10415)) => Some(Name::UsageMonitoringReport),
             (1070, Some(10415)) => Some(Name::UsageMonitoringSupport),
+            _ => None,
+        }
+    }
+}
+
+impl Name {
+    /// The code.
+    pub fn code(self) -> u32
+        ensures { λ r. ⌜ r ≡ codeOf self ⌝ }
+    {
+        match self {
+            Name::CcInputOctets => 412,
+            Name::CcOutputOctets => 414,
+            Name::CcRequestNumber => 415,
+            Name::CcRequestType => 416,
+            Name::CcTotalOctets => 421,
+            Name::GrantedServiceUnit => 431,
+            Name::UsedServiceUnit => 446,
+            Name::MonitoringKey => 1066,
+            Name::UsageMonitoringInformation => 1067,
+            Name::UsageMonitoringLevel => 1068,
+            Name::UsageMonitoringReport => 1069,
+            Name::UsageMonitoringSupport => 1070,
+        }
+    }
+
+    /// The vendor, for those of 3GPP.
+    pub fn vendor(self) -> Option<u32>
+        ensures { λ r. ⌜ r ≡ vendorOf self ⌝ }
+    {
+        match self {
+            Name::MonitoringKey
+            | Name::UsageMonitoringInformation
+            | Name::UsageMonitoringLevel
+            | Name::UsageMonitoringReport
+            | Name::UsageMonitoringSupport => Some(10415),
             _ => None,
         }
     }

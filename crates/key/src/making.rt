@@ -1,6 +1,8 @@
 ghost use mathlib.Core.Path.{_≡_};
 ghost use mathlib.Core.Bool.{_&&_};
+ghost use Prim.Native.Nat.{_≤_};
 ghost use lib.Dec.{leb};
+ghost use lib.ListN.{length};
 ghost use Rattle.std.specs.shelf.Text.{sameBytes};
 ghost use Rattle.key.specs.Keys.{blankKey, keyOf, octetsOf, sameKey};
 use crate::key::Key;
@@ -54,7 +56,8 @@ impl Key {
 
     /// The key's octets.
     pub fn octets(&self) -> &[u8]
-        ensures { λ r. ⌜ now r ≡ octetsOf (now (self .entry)) ⌝ }
+        ensures value { λ r. ⌜ now r ≡ octetsOf (now (self .entry)) ⌝ }
+        ensures bound { λ r. ⌜ length (now r) ≤ 16 ⌝ }
     {
         &self.octets[0..self.size.min(16)]
     }

@@ -20,26 +20,25 @@ fn same(a: Option<Key>, b: Option<Key>) -> bool
     }
 }
 
-impl<V: Entry> Groups<V> {
-    /// Whether one of the groups has this key.
-    pub fn has_key(&self, key: Option<Key>) -> bool
-        ensures { λ r. ⌜ r ≡ hasKey (V·Entry .keyed) key (listOf (now (self .entry))) ⌝ }
-    {
-        let groups = self.as_slice();
-        for group in groups {
-            if same(group.key(), key) {
-                return true;
-            }
+/// Whether one of the groups has this key.
+pub fn has_key<V: Entry>(groups: &[V], key: Option<Key>) -> bool
+    ensures { λ r. ⌜ r ≡ hasKey (V·Entry .keyed) key (now (groups .entry)) ⌝ }
+{
+    for group in groups {
+        if same(group.key(), key) {
+            return true;
         }
-        false
     }
+    false
+}
 
+impl<V: Entry> Groups<V> {
     /// Reads one group more, which starts at `place`, and whose data are `part`.
     pub fn add(&mut self, place: usize, part: Part) -> Result<(), Fault>
         ensures { λ r. ⌜ left r (listOf (now (self .exit))) ≡ then (V·Entry .reads place (span (part .entry))) (added (V·Entry .keyed) (listOf (now (self .entry))) place) ⌝ }
     {
         let group = V::read(place, part)?;
-        if self.has_key(group.key()) {
+        if has_key(self.as_slice(), group.key()) {
             return Err(Fault::message(Code::RepeatedKey, place));
         }
         if !self.push(group) {

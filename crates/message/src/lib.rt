@@ -8,6 +8,7 @@ mod groups;
 mod numbered;
 mod values;
 
+pub use adding::has_key;
 pub use checking::check;
 pub use checking::verdict;
 pub use commands::read_command;

@@ -1,7 +1,7 @@
 use mathlib.Core.Path.{_≡_}
 use lib.ListN.{drop}
 use Rattle.message.specs.Keyed.{hasKey}
-use Rattle.message.proofs.groups.Groups.has_key.Given as given
+use Rattle.message.proofs.adding.has_key.Given as given
 
 -- the groups that are left decide
 abbrev pub Inv-loop-group : given.InvT-loop-group

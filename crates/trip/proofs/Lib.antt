@@ -1,0 +1,10 @@
+pub mod First
+pub mod Steps
+pub mod Units
+pub mod Keys
+pub mod Reports
+pub mod Grants
+pub mod Orders
+pub mod Groups
+pub mod Messages
+pub mod Wrote

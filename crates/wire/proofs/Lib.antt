@@ -1,0 +1,5 @@
+pub mod Lengths
+pub mod Grouped
+pub mod Each
+pub mod Checks
+pub mod Sent
