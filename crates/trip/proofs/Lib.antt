@@ -8,3 +8,11 @@ pub mod Orders
 pub mod Groups
 pub mod Messages
 pub mod Wrote
+pub mod Undo
+pub mod Few
+pub mod UnitsAgain
+pub mod ReportsAgain
+pub mod GrantsAgain
+pub mod OrdersAgain
+pub mod GroupsAgain
+pub mod MessagesAgain

@@ -60,19 +60,19 @@ unfaulty true false e = let z : _≡_ {A = ℕ} 0 1 = cc in absurd (omega arith)
 unfaulty false b e = let z : _≡_ {A = ℕ} 0 1 = cc in absurd (omega arith)
 
 -- what a report or an answer holds, once it has a number and a type, and groups or none
-abbrev holding : Bool → Name → Bool
+abbrev pub holding : Bool → Name → Bool
 holding some n = cond (is n CcRequestNumber) true (cond (is n CcRequestType) true (cond (is n UsageMonitoringInformation) some false))
 
-admits-by : (some : Bool) → shape.admits numbered.shapes (holding some) UsageMonitoringInformation ≡ true
+pub admits-by : (some : Bool) → shape.admits numbered.shapes (holding some) UsageMonitoringInformation ≡ true
 admits-by true = refl
 admits-by false = refl
 
-complete-by : (some : Bool) → shape.complete numbered.shapes (holding some) ≡ true
+pub complete-by : (some : Bool) → shape.complete numbered.shapes (holding some) ≡ true
 complete-by true = refl
 complete-by false = refl
 
 module _ {V : Type 0} (reads : ℕ → Span → Result V Fault) (keyed : V → Option Key) (number : ℕ) (t : RequestType) where
-  abbrev state : List V → Partial V
+  abbrev pub state : List V → Partial V
   state vs = record { number = Some number; type = Some t; groups = vs }
 
   starts : (rest : List ℕ) → allows (limitsOf false CcRequestNumber) number ≡ true → gather (member (numbered.rules reads keyed)) numbered.begun (avps (record { place = 0; octets = written CcRequestNumber (be32 number) ++ rest })) ≡ gather (member (numbered.rules reads keyed)) (record { number = Some number; type = None; groups = [] }) (avps (seen CcRequestNumber 0 (be32 number) rest .rest))
@@ -144,25 +144,22 @@ pub answers : Answer-back
 answers m few fine = numbered-back readAnswerGroup answerKey answerAt answerData soundAnswer m answer-back (λ at g. refl) answer-short few fine
 
 -- a command holds groups alone
-ordering : Bool → Name → Bool
+abbrev pub ordering : Bool → Name → Bool
 ordering some n = cond (is n UsageMonitoringInformation) some false
 
-orders-admit : (some : Bool) → shape.admits commands.shapes (ordering some) UsageMonitoringInformation ≡ true
-unfolding ordering
+pub orders-admit : (some : Bool) → shape.admits commands.shapes (ordering some) UsageMonitoringInformation ≡ true
 orders-admit true = refl
 orders-admit false = refl
 
-orders-complete : (some : Bool) → shape.complete commands.shapes (ordering some) ≡ true
-unfolding ordering
+pub orders-complete : (some : Bool) → shape.complete commands.shapes (ordering some) ≡ true
 orders-complete true = refl
 orders-complete false = refl
 
-then-ok : {X : Type 0} (r : Result X Fault) → r ≡ then r (λ x. Ok x)
+pub then-ok : {X : Type 0} (r : Result X Fault) → r ≡ then r (λ x. Ok x)
 then-ok (Ok x) = refl
 then-ok (Err f) = refl
 
 pub commands-back : Command-back
-unfolding ordering
 commands-back vs few fine =
     let a = unfaulty (every soundCommand vs) (distinct commandKey vs) fine in
     let k : Kind CommandGroup (List CommandGroup) (List CommandGroup) = record {

@@ -31,7 +31,7 @@ use Rattle.draft.specs.Octets.{be32, be64, written}
 use Rattle.wire.proofs.Lengths.{headerSize, written-length}
 use Rattle.trip.proofs.First.{seen, first-written, name-back, u32-back}
 
-some : (n : Name) (ds rest : List ℕ) → 0 < length (written n ds ++ rest)
+pub some : (n : Name) (ds rest : List ℕ) → 0 < length (written n ds ++ rest)
 some n ds rest = omega (arith, length-append (written n ds) rest, written-length n ds, head (vendorOf n))
   where
     head : (o : Option ℕ) → 8 ≤ headerSize o
