@@ -2,7 +2,8 @@
  *
  * The promise, proved of the function that this declares:
  *   - it accepts any kind and any octets, and always returns;
- *   - it reads octets[0 .. length - 1] and nothing else, writes nothing, and allocates nothing;
+ *   - it reads octets[0 .. length - 1] and nothing else (it takes a shared slice and no allocator, so it writes
+ *     nothing to the caller's memory and allocates nothing);
  *   - it answers 0 where the octets are a sound message of the kind, else the code of the fault that comes first:
  *       1  the header, length or padding of an AVP overruns, or the length is below the header
  *       2  an AVP that is not known has flag 40
