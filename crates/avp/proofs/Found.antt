@@ -1,12 +1,12 @@
 -- Where the tests pass, what was put together is the AVP at the head.
-use Rattle.std.proofs.Common.{◌≡◌, ℕ, ◌+◌, ◌-◌, ◌≤◌, true, cond, List, length, take, drop, Some, None, Ok, Err, Option, sym, refl, ap, ◌∙◌, arith}
+use Rattle.std.proofs.Common.{◌≡◌, ℕ, ◌+◌, ◌-◌, ◌≤◌, true, cond, List, length, take, drop, Some, None, Ok, Err, sym, ap, ◌∙◌, arith}
 use Rattle.std.proofs.lemmas.List.{take_rest}
 use Rattle.std.proofs.lemmas.Bool.{cond-true}
 use Rattle.std.proofs.lemmas.Bool.Decides.{nat_tests}
 use Rattle.fault.specs.declared.Code.TheVariants.{Overrun}
 use Rattle.fault.specs.Numbers.{message_fault}
 use Rattle.avp.specs.Octets.{u32_at, padded}
-use Rattle.avp.specs.Header.{Span, Parsed, vendored, header_length, flags_of, stated, parsed, fits_in, first_avp}
+use Rattle.avp.specs.Header.{Parsed, vendored, header_length, flags_of, stated, parsed, fits_in, first_avp}
 
 pub record Fits (bs : List ℕ) : Type 0 where
   pub long : 8 ≤ length bs

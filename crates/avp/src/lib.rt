@@ -1,5 +1,8 @@
 //! Diameter AVPs read from octets, one at a time: the header and its limits, the twelve AVPs that are known, and what
 //! their data hold. It knows nothing of which AVP may stand where.
+
+#![tactic(auto)]
+
 mod field;
 mod header;
 mod meaning;

@@ -1,5 +1,8 @@
 //! Refusals. A fault says what is wrong (a code), of what kind of thing (a layer), and where (the place of an octet).
 //! It knows nothing of messages, meters or ledgers.
+
+#![tactic(auto)]
+
 ghost use Rattle.std.specs.Prelude.{◌≡◌};
 ghost use Rattle.fault.specs.Numbers.{call_fault, layer_of, message_fault, number_of};
 

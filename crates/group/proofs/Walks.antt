@@ -1,12 +1,12 @@
 -- The AVPs of octets, one at a time, and what is gathered from them.
-use Rattle.std.proofs.Common.{◌≡◌, ℕ, zero, suc, ◌+◌, ◌-◌, ◌<◌, ◌≤◌, Bool, true, false, cond, eqb, List, length, drop, Ok, Err, Result, sym, refl, ap, ◌∙◌, arith}
+use Rattle.std.proofs.Common.{◌≡◌, ℕ, zero, suc, ◌-◌, ◌<◌, ◌≤◌, Bool, true, false, cond, eqb, List, length, drop, Ok, Err, Result, sym, refl, ap, ◌∙◌, arith}
 use Rattle.std.proofs.lemmas.List.{length-drop}
 use Rattle.std.proofs.lemmas.Bool.{cond-true, cond-false, eq-eqb, ne_eqb}
 use Rattle.std.proofs.lemmas.Bool.Decides.{nat_tests}
 use Rattle.fault.specs.declared.Fault.{Fault}
 use Rattle.avp.specs.Octets.{padded}
 use Rattle.avp.specs.Header.{Span, Parsed, stated, first_avp}
-use Rattle.group.specs.Walk.{Avps, End, Broken, Next, avps, avps_by, linked, then, gather}
+use Rattle.group.specs.Walk.{Avps, End, Next, avps, avps_by, linked, then, gather}
 use Rattle.group.specs.Members.{Rules, member, ended, read_group}
 
 -- an AVP takes octets

@@ -1,6 +1,5 @@
 -- Reading a group: its members from left to right, and at its end whether one is missing.
 use Rattle.std.specs.Prelude.{ℕ, ◌+◌, Bool, cond, List, length, Some, None, Ok, Err, Option, Result}
-use Rattle.fault.specs.declared.Code.{Code}
 use Rattle.fault.specs.declared.Code.TheVariants.{UnknownAvp, Repeated, Foreign, Absent}
 use Rattle.fault.specs.declared.Fault.{Fault}
 use Rattle.fault.specs.Numbers.{message_fault}

@@ -1,6 +1,6 @@
 -- A group of a command: a grant (Monitoring-Key, Granted-Service-Unit and Usage-Monitoring-Level), a disable
 -- (Monitoring-Key and Usage-Monitoring-Support) or a request (Usage-Monitoring-Report and perhaps Monitoring-Key).
-use Rattle.std.specs.Prelude.{ℕ, Bool, true, false, cond, List, [], ◌∷◌, is_some, Some, None, Ok, Option, Result}
+use Rattle.std.specs.Prelude.{ℕ, Bool, true, false, cond, List, [], ◌∷◌, is_some, Some, None, Ok, Result}
 use Rattle.std.specs.Option.{unwrap_or}
 use Rattle.fault.specs.declared.Fault.{Fault}
 use Rattle.avp.specs.declared.name.Name.{Name}

@@ -1,5 +1,8 @@
 //! One Usage-Monitoring-Information, as a report, an answer or a command holds it. It knows nothing of the message
 //! around it, but for the place where the group starts.
+
+#![tactic(auto)]
+
 mod answer;
 mod command;
 mod report;

@@ -1,5 +1,5 @@
 -- The faults of a message lie within it.
-use Rattle.std.proofs.Common.{◌≡◌, ℕ, ◌≤◌, ltb, List, [], length, Some, None, Option, Result, arith, lit≤}
+use Rattle.std.proofs.Common.{ℕ, ◌≤◌, ltb, List, [], length, Option, Result, arith, lit≤}
 use Rattle.fault.specs.declared.Code.TheVariants.{RepeatedKey, TooMany}
 use Rattle.fault.specs.declared.Fault.{Fault}
 use Rattle.avp.specs.declared.name.Name.{Name}
@@ -8,7 +8,7 @@ use Rattle.avp.specs.Header.{Span}
 use Rattle.avp.specs.Names.{is}
 use Rattle.avp.specs.Fields as field
 use Rattle.group.specs.Walk.{then}
-use Rattle.group.proofs.Within.{Inside, SpanIn, ValueIn, fine, faulty, fine_cond, fine_then, fine_meaning, refused, read_in}
+use Rattle.group.proofs.Within.{Inside, SpanIn, ValueIn, fine, fine_cond, fine_then, fine_meaning, refused, read_in}
 use Rattle.key.specs.declared.key.Key.{Key}
 use Rattle.information.specs.declared.values.CommandGroup.{CommandGroup}
 use Rattle.information.specs.Report.{read_report_group}

@@ -1,5 +1,5 @@
 -- A command: groups, and nothing else that is known.
-use Rattle.std.specs.Prelude.{ℕ, Bool, true, false, cond, List, [], ◌∷◌, length, Ok, Result, nat_lt}
+use Rattle.std.specs.Prelude.{ℕ, Bool, false, cond, List, [], ◌∷◌, length, Ok, Result, nat_lt}
 use Rattle.fault.specs.declared.Fault.{Fault}
 use Rattle.avp.specs.declared.name.Name.{Name}
 use Rattle.avp.specs.declared.name.Name.TheVariants.{UsageMonitoringInformation}

@@ -1,5 +1,5 @@
 -- A report or an answer: CC-Request-Number, CC-Request-Type and groups.
-use Rattle.std.specs.Prelude.{ℕ, Bool, true, false, cond, List, [], ◌∷◌, length, is_some, Some, None, Ok, Option, Result, nat_lt}
+use Rattle.std.specs.Prelude.{ℕ, Bool, false, cond, List, [], ◌∷◌, length, is_some, Some, None, Ok, Option, Result, nat_lt}
 use Rattle.std.specs.Option.{unwrap_or}
 use Rattle.fault.specs.declared.Fault.{Fault}
 use Rattle.avp.specs.declared.name.Name.{Name}

@@ -1,5 +1,8 @@
 //! Reports, answers and commands, read whole from any octets into values of a bounded size, or refused with the fault
 //! that comes first. It reads and checks; it does not write, and it acts on nothing.
+
+#![tactic(auto)]
+
 mod adding;
 mod checking;
 mod commands;

@@ -1,6 +1,6 @@
 -- A unit group: CC-Total-Octets alone, CC-Input-Octets (uplink) alone, CC-Output-Octets (downlink) alone, or both
 -- directions.
-use Rattle.std.specs.Prelude.{ℕ, Bool, true, false, cond, List, [], ◌∷◌, is_some, Some, None, Ok, Option, Result}
+use Rattle.std.specs.Prelude.{ℕ, Bool, false, cond, List, [], ◌∷◌, is_some, Some, None, Ok, Option, Result}
 use Rattle.fault.specs.declared.Fault.{Fault}
 use Rattle.avp.specs.declared.name.Name.{Name}
 use Rattle.avp.specs.declared.name.Name.TheVariants.{CcInputOctets, CcOutputOctets, CcTotalOctets}

@@ -1,5 +1,8 @@
 //! The numbers that a message holds: their limits, what small ones stand for, and the unit groups, which hold octets
 //! granted or used.
+
+#![tactic(auto)]
+
 mod gathering;
 mod numbers;
 mod values;

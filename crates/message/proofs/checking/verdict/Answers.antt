@@ -5,6 +5,6 @@ use Rattle.message.proofs.checking.verdict.Goals as goal
 
 pub returns : goal.returns
 returns c = record {
-  value = c.read-as.ensures;
-  within = λ f e. fault_of_lem _ (verdict_in c.args.kind c.args.octets.now) f (sym c.read-as.ensures ∙ e);
+  value = c.read_as.ensures;
+  within = λ f e. fault_of_lem _ (verdict_in c.args.kind c.args.octets.now) f (sym c.read_as.ensures ∙ e);
 }

@@ -1,4 +1,4 @@
-use Rattle.std.proofs.Common.{◌+◌, ap, ◌∙◌}
+use Rattle.std.proofs.Common.{◌+◌, ap}
 use Rattle.avp.proofs.Parts.{part_of_part}
 use Rattle.avp.proofs.part.Part.within.Goals as goal
 

@@ -1,4 +1,4 @@
-use Rattle.std.proofs.Common.{◌≡◌, ◌+◌, ◌<◌, min, length, sym, ap, ◌∙◌, arith}
+use Rattle.std.proofs.Common.{◌≡◌, min, length, sym, ap, ◌∙◌}
 use Rattle.message.proofs.Pushed.{pushed}
 use Rattle.message.proofs.groups.Groups.store.Goals as goal
 
