@@ -1,5 +1,5 @@
 -- The octets of numbers and of padding.
-use Rattle.std.proofs.Common.{◌≡◌, ℕ, ◌-◌, ◌/◌, ◌%◌, ◌<◌, List, [], ◌∷◌, ◌++◌, take, replicate, sym, ap, ◌∙◌, arith}
+use Rattle.std.proofs.Common.{◌≡◌, ℕ, ◌-◌, ◌/◌, ◌%◌, ◌<◌, [], ◌∷◌, take, replicate, sym, ap, ◌∙◌, arith}
 use native.Mathlib.Nat.{div-div-eq-div-mul, sub-zero}
 use Rattle.std.proofs.lemmas.List.{take-replicate}
 use Rattle.avp.specs.Octets.{padded}

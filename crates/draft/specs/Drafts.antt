@@ -1,5 +1,5 @@
 -- What a draft holds, and what one write does to it.
-use Rattle.std.specs.Prelude.{◌≡◌, ℕ, ◌+◌, cond, List, [], ◌∷◌, ◌++◌, length, take, drop, is_ok, Result, MatchResult, nat_le}
+use Rattle.std.specs.Prelude.{◌≡◌, ℕ, ◌+◌, List, ◌++◌, length, take, drop, is_ok, Result, MatchResult, nat_le}
 use Rattle.fault.specs.declared.Code.TheVariants.{Short}
 use Rattle.fault.specs.declared.Fault.{Fault}
 use Rattle.fault.specs.Numbers.{call_fault}

@@ -1,5 +1,8 @@
 //! Figures that the documents state, shown by writing and reading real messages. What it prints is compared with the
 //! file `stdout` beside `src`.
+
+#![tactic(auto)]
+
 use anyhow::Context;
 use information::ReportGroup;
 use key::Key;

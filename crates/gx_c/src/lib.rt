@@ -1,4 +1,7 @@
 //! The entry from C: the check of a message, for the gateway's packet path. `include/gx.h` declares it.
+
+#![tactic(auto)]
+
 ghost use Rattle.std.specs.Prelude.{◌≡◌, ◌≤◌};
 ghost use Rattle.message.specs.Check.{checked};
 

@@ -1,10 +1,8 @@
 -- Parts of octets that are few are few.
-use Rattle.std.proofs.Common.{◌≡◌, ℕ, ◌+◌, ◌<◌, ◌≤◌, List, ◌++◌, length, arith, length-append}
+use Rattle.std.proofs.Common.{ℕ, ◌<◌, List, ◌++◌, length, arith, length-append}
 use Rattle.avp.specs.declared.name.Name.{Name}
-use Rattle.avp.specs.Octets.{padded}
-use Rattle.avp.specs.Names.{vendor_of}
 use Rattle.draft.specs.Octets.{written}
-use Rattle.wire.specs.Lengths.{header_size, written_length}
+use Rattle.wire.specs.Lengths.{written_length}
 
 pub data_short : (n : Name) (ds : List ℕ) → length (written n ds) < 65536 → length ds < 65536
 data_short n ds h = omega (arith, written_length n ds)

@@ -1,5 +1,5 @@
 -- The AVP at the head of octets that begin with a written one.
-use Rattle.std.proofs.Common.{◌≡◌, ℕ, ◌+◌, ◌-◌, ◌*◌, ◌/◌, ◌%◌, ◌^◌, ◌<◌, ◌≤◌, true, false, cond, List, [], ◌∷◌, ◌++◌, length, take, drop, replicate, Some, None, Ok, Err, Option, sym, refl, ap, ◌∙◌, append_assoc, arith, lit<, length-append}
+use Rattle.std.proofs.Common.{◌≡◌, ℕ, ◌+◌, ◌-◌, ◌/◌, ◌%◌, ◌^◌, ◌<◌, true, List, ◌++◌, length, take, drop, Some, None, Ok, Err, Option, sym, refl, ap, ◌∙◌, append_assoc, arith, lit<, length-append}
 use native.Mathlib.Nat.{div-div-eq-div-mul}
 use lib.ListN.{length-replicate}
 use Rattle.std.proofs.lemmas.List.{take_at, drop_at, drop-drop}
@@ -10,10 +10,10 @@ use Rattle.fault.specs.Numbers.{message_fault}
 use Rattle.avp.specs.declared.name.Name.{Name}
 use Rattle.avp.specs.declared.name.Name.TheVariants.{CcRequestNumber, CcRequestType, CcInputOctets, CcOutputOctets, CcTotalOctets, GrantedServiceUnit, UsedServiceUnit, MonitoringKey, UsageMonitoringInformation, UsageMonitoringLevel, UsageMonitoringReport, UsageMonitoringSupport}
 use Rattle.avp.specs.Names.{code_of, vendor_of, name_of}
-use Rattle.avp.specs.Octets.{u24_at, u32_at, u64_at, padded}
-use Rattle.avp.specs.Header.{Span, Parsed, parsed, stated, fits_in, first_avp}
+use Rattle.avp.specs.Octets.{u24_at, u32_at, padded}
+use Rattle.avp.specs.Header.{Parsed, parsed, stated, fits_in, first_avp}
 use Rattle.wire.specs.Lengths.{header_size}
-use Rattle.draft.specs.Octets.{be24, be32, be64, plain_header, vendor_header, header_by, header_of, padding_of, written}
+use Rattle.draft.specs.Octets.{be24, be32, plain_header, vendor_header, header_by, header_of, padding_of, written}
 
 pub u32_back : (n : ℕ) → n < 2 ^ 32 → u32_at (be32 n) 0 ≡ n
 u32_back n h =

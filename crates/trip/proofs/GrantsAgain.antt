@@ -1,13 +1,12 @@
 -- A group of an answer in the writer's own form is written again exactly.
-use Rattle.std.proofs.Common.{◌≡◌, ℕ, ◌+◌, ◌<◌, ◌≤◌, Bool, true, false, cond, leb, List, [], ◌∷◌, ◌++◌, length, get_or, Some, None, Ok, Err, Option, Result, sym, refl, ap, ◌∙◌, append-nil, arith}
+use Rattle.std.proofs.Common.{◌≡◌, ℕ, ◌+◌, ◌<◌, ◌≤◌, true, false, leb, List, [], ◌++◌, length, get_or, Some, None, Ok, Option, sym, refl, ap, ◌∙◌, append-nil}
 use Rattle.std.proofs.lemmas.Bool.{and_parts, cond-true, leb-true}
 use Rattle.avp.specs.declared.name.Name.TheVariants.{MonitoringKey, GrantedServiceUnit, UsageMonitoringLevel}
 use Rattle.avp.specs.Octets.{u32_at, padded}
 use Rattle.avp.specs.Fields as field
-use Rattle.group.specs.Walk.{then, avps, gather}
+use Rattle.group.specs.Walk.{avps, gather}
 use Rattle.group.specs.Members.{member, ended}
 use Rattle.key.specs.declared.key.Key.{Key}
-use Rattle.key.specs.Keys.{octets_of}
 use Rattle.units.specs.declared.values.Level.{Level}
 use Rattle.units.specs.declared.values.Units.{Units}
 use Rattle.units.specs.Limits.{limits_of, level_of}
@@ -16,8 +15,8 @@ use Rattle.information.specs.declared.values.AnswerGroup.{AnswerGroup}
 use Rattle.information.specs.declared.values.AnswerGroupSoFar.{AnswerGroupSoFar}
 use Rattle.information.specs.Answer.{begun, puts, read_answer_group, rules}
 use Rattle.draft.specs.Octets.{be32, written}
-use Rattle.wire.specs.Octets.{key_avp, units_avp, number_avp, level_number, units_data, answer_data}
-use Rattle.trip.specs.Own.{OwnUnits, OwnAnswered, stopped, granted}
+use Rattle.wire.specs.Octets.{key_avp, units_avp, number_avp, answer_data}
+use Rattle.trip.specs.Own.{OwnAnswered, stopped, granted}
 use Rattle.trip.proofs.First.{seen}
 use Rattle.trip.proofs.Few.{data_short, head_short, tail_short}
 use Rattle.trip.proofs.Undo.{then_undo, unstep, undo_last, undo_32, undo_key, again_32, small_left, small_right, small_data}

@@ -1,9 +1,8 @@
 -- Groups written one after the other read back in their order.
-use Rattle.std.proofs.Common.{◌≡◌, ℕ, ◌+◌, ◌<◌, ◌≤◌, Bool, true, false, cond, ◌&&◌, ltb, List, [], ◌∷◌, ◌++◌, length, Ok, Err, Option, Result, sym, refl, ap, ◌∙◌, append_assoc, append-nil, arith, length-append}
+use Rattle.std.proofs.Common.{◌≡◌, ℕ, ◌+◌, ◌<◌, ◌≤◌, Bool, true, false, cond, List, [], ◌∷◌, ◌++◌, length, Ok, Option, Result, sym, refl, ap, ◌∙◌, append_assoc, append-nil, arith, length-append}
 use Rattle.std.proofs.lemmas.Bool.{and_parts, cond-true, cond-false, lt-ltb, false≢true}
 use Rattle.fault.specs.declared.Fault.{Fault}
 use Rattle.avp.specs.declared.name.Name.TheVariants.{UsageMonitoringInformation}
-use Rattle.avp.specs.Octets.{padded}
 use Rattle.avp.specs.Header.{Span}
 use Rattle.avp.specs.Fields as field
 use Rattle.group.specs.Walk.{then, avps, gather}
@@ -13,12 +12,10 @@ use Rattle.group.specs.Members.{Rules, member}
 use Rattle.group.proofs.Walks.{gather_ends}
 use Rattle.key.specs.declared.key.Key.{Key}
 use Rattle.message.specs.Keyed.{same_keys, has_key, added}
-use Rattle.draft.specs.Octets.{written}
 use Rattle.wire.specs.Octets.{each, group_avp}
 use Rattle.wire.specs.Sound.{distinct_after}
 use Rattle.wire.specs.Lengths.{written_length}
 use Rattle.trip.specs.Back.{placed}
-use Rattle.trip.proofs.First.{seen}
 use Rattle.trip.proofs.Steps.{step}
 
 has_append : {V : Type 0} (keyed : V → Option Key) (k : Option Key) (vs : List V) (v : V) → has_key keyed k (vs ++ v ∷ []) ≡ cond (has_key keyed k vs) true (same_keys (keyed v) k)

@@ -1,5 +1,5 @@
 -- Whole messages read back.
-use Rattle.std.proofs.Common.{◌≡◌, ℕ, ◌+◌, ◌^◌, ◌<◌, ◌≤◌, Bool, true, false, cond, ◌&&◌, ltb, leb, List, [], ◌∷◌, ◌++◌, length, Some, None, Ok, Err, Option, Result, sym, refl, ap, ◌∙◌, append_assoc, arith}
+use Rattle.std.proofs.Common.{◌≡◌, ℕ, ◌^◌, ◌<◌, ◌≤◌, Bool, true, false, cond, ◌&&◌, ltb, leb, List, [], ◌++◌, length, Some, None, Ok, Err, Option, Result, refl, ap, ◌∙◌, append_assoc, arith}
 use Rattle.std.proofs.lemmas.Bool.{and_parts, cond-true, leb-true}
 use Rattle.fault.specs.declared.Fault.{Fault}
 use Rattle.avp.specs.declared.name.Name.{Name}
@@ -13,7 +13,6 @@ use Rattle.group.specs.Shapes as shape
 use Rattle.group.specs.Shapes.{every}
 use Rattle.group.specs.Members.{member, ended}
 use Rattle.key.specs.declared.key.Key.{Key}
-use Rattle.key.specs.Keys.{octets_of}
 use Rattle.units.specs.declared.values.RequestType.{RequestType}
 use Rattle.units.specs.declared.values.RequestType.TheVariants as type
 use Rattle.units.specs.declared.values.Units.{Units}
@@ -31,7 +30,7 @@ use Rattle.message.specs.Numbered as numbered
 use Rattle.message.specs.Numbered.{Message, Partial}
 use Rattle.message.specs.Commands as commands
 use Rattle.draft.specs.Octets.{be32, written}
-use Rattle.wire.specs.Octets.{each, group_avp, number_avp, type_number, start_of, numbered_octets, command_octets, report_data, answer_data, command_data, order_data, units_data, granted_data, key_avp}
+use Rattle.wire.specs.Octets.{each, group_avp, number_avp, type_number, numbered_octets, command_octets, report_data, answer_data, command_data, order_data, granted_data, key_avp}
 use Rattle.wire.specs.Sound.{distinct, fault_of, sound_key, sound_report, sound_answer, sound_command, sound_order, sound_units, sound_granted}
 use Rattle.wire.specs.Lengths.{key_length, report_length, answer_length, granted_length, grant_length, disable_length, request_length, asked_length}
 use Rattle.trip.specs.Back.{report_at, answer_at, command_at, placed, located, ReportBack, AnswerBack, CommandBack}

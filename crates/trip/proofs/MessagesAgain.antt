@@ -1,18 +1,14 @@
 -- Messages in the writer's own form are written again exactly.
-use Rattle.std.proofs.Common.{◌≡◌, ℕ, zero, suc, ◌+◌, ◌<◌, ◌≤◌, Bool, true, false, cond, ltb, leb, List, [], ◌∷◌, ◌++◌, length, get_or, Some, None, Ok, Err, Option, Result, sym, refl, ap, ◌∙◌, append_assoc, arith}
+use Rattle.std.proofs.Common.{◌≡◌, ℕ, zero, suc, ◌+◌, ◌<◌, ◌≤◌, false, ltb, leb, List, [], ◌++◌, length, get_or, Some, None, Ok, Option, Result, sym, refl, ap, ◌∙◌, append_assoc, arith}
 use Rattle.std.proofs.lemmas.Bool.{and_parts, leb-true}
 use Rattle.fault.specs.declared.Fault.{Fault}
 use Rattle.avp.specs.declared.name.Name.TheVariants.{CcRequestNumber, CcRequestType}
 use Rattle.avp.specs.Octets.{u32_at, padded}
 use Rattle.avp.specs.Header.{Span}
-use Rattle.avp.specs.Fields as field
-use Rattle.group.specs.Walk.{then, avps, gather}
+use Rattle.group.specs.Walk.{avps, gather}
 use Rattle.group.specs.Members.{member, ended}
 use Rattle.key.specs.declared.key.Key.{Key}
-use Rattle.units.specs.declared.values.RequestType.{RequestType}
 use Rattle.units.specs.Limits.{limits_of, type_of}
-use Rattle.information.specs.declared.values.ReportGroup.{ReportGroup}
-use Rattle.information.specs.declared.values.AnswerGroup.{AnswerGroup}
 use Rattle.information.specs.declared.values.CommandGroup.{CommandGroup}
 use Rattle.information.specs.Report.{read_report_group}
 use Rattle.information.specs.Answer.{read_answer_group}
@@ -23,7 +19,7 @@ use Rattle.message.specs.Numbered.{Message, Partial}
 use Rattle.message.specs.Commands as commands
 use Rattle.draft.specs.Octets.{be32, written}
 use Rattle.wire.specs.Octets.{each, group_avp, number_avp, type_number, numbered_octets, report_data, answer_data, command_data}
-use Rattle.trip.specs.Own.{Octets, OwnReported, OwnAnswered, OwnOrdered, OwnGroups, OwnNumbered, numbered, ReportAgain, AnswerAgain, CommandAgain}
+use Rattle.trip.specs.Own.{Octets, OwnOrdered, OwnNumbered, numbered, ReportAgain, AnswerAgain, CommandAgain}
 use Rattle.trip.proofs.First.{seen}
 use Rattle.trip.proofs.Few.{data_short, head_short, tail_short}
 use Rattle.trip.proofs.Undo.{then_undo, cond_undo, unstep, undo_32, again_32, small_left, small_right, small_data}

@@ -1,25 +1,23 @@
 -- A group of a command in the writer's own form is written again exactly.
-use Rattle.std.proofs.Common.{◌≡◌, ℕ, zero, suc, ◌+◌, ◌<◌, ◌≤◌, Bool, true, false, cond, leb, List, [], ◌∷◌, ◌++◌, length, get_or, Some, None, Ok, Err, Option, Result, sym, refl, ap, ◌∙◌, arith}
+use Rattle.std.proofs.Common.{◌≡◌, ℕ, ◌+◌, ◌<◌, ◌≤◌, Bool, true, false, leb, List, [], ◌++◌, length, get_or, Some, None, Ok, Option, sym, refl, ap, ◌∙◌, arith}
 use Rattle.std.proofs.lemmas.Bool.{and_parts, cond-true, leb-true}
 use Rattle.avp.specs.declared.name.Name.TheVariants.{MonitoringKey, GrantedServiceUnit, UsageMonitoringLevel, UsageMonitoringReport, UsageMonitoringSupport}
 use Rattle.avp.specs.Octets.{u32_at, padded}
 use Rattle.avp.specs.Fields as field
-use Rattle.group.specs.Walk.{then, avps, gather}
+use Rattle.group.specs.Walk.{avps, gather}
 use Rattle.group.specs.Members.{member, ended}
 use Rattle.key.specs.declared.key.Key.{Key}
-use Rattle.key.specs.Keys.{octets_of}
 use Rattle.units.specs.declared.values.Level.{Level}
 use Rattle.units.specs.declared.values.Units.{Units}
 use Rattle.units.specs.Limits.{limits_of, level_of}
 use Rattle.units.specs.Units.{read_units}
 use Rattle.information.specs.declared.values.CommandGroup.{CommandGroup}
-use Rattle.information.specs.declared.values.Order.{Order}
 use Rattle.information.specs.declared.values.Order.TheVariants.{Grant, Disable, Request}
 use Rattle.information.specs.declared.values.CommandGroupSoFar.{CommandGroupSoFar}
 use Rattle.information.specs.Command.{begun, puts, read_command_group, rules}
 use Rattle.draft.specs.Octets.{be32, written}
-use Rattle.wire.specs.Octets.{key_avp, units_avp, number_avp, level_number, units_data, command_data}
-use Rattle.trip.specs.Own.{OwnUnits, OwnOrdered, grants, disables, requests, requests_key}
+use Rattle.wire.specs.Octets.{key_avp, units_avp, number_avp, command_data}
+use Rattle.trip.specs.Own.{OwnOrdered, grants, disables, requests, requests_key}
 use Rattle.trip.proofs.First.{seen}
 use Rattle.trip.proofs.Few.{data_short, head_short, tail_short}
 use Rattle.trip.proofs.Undo.{then_undo, unstep, undo_last, undo_32, undo_key, again_32, small_left, small_right, small_data}

@@ -1,14 +1,14 @@
 -- A group of a report in the writer's own form is written again exactly.
-use Rattle.std.proofs.Common.{◌≡◌, ℕ, zero, suc, ◌+◌, ◌-◌, ◌<◌, ◌≤◌, min, Bool, true, false, cond, leb, List, [], ◌∷◌, ◌++◌, length, get_or, take, replicate, Some, None, Ok, Err, Option, Result, sym, refl, ap, ◌∙◌, arith}
+use Rattle.std.proofs.Common.{◌≡◌, ℕ, zero, suc, ◌+◌, ◌-◌, ◌<◌, ◌≤◌, min, true, false, leb, List, [], ◌++◌, length, get_or, take, replicate, Some, None, Ok, Option, sym, refl, ap, ◌∙◌, arith}
 use Rattle.std.proofs.lemmas.List.{take_at}
 use Rattle.std.proofs.lemmas.Bool.{and_parts, cond-true, leb-true}
 use Rattle.avp.specs.declared.name.Name.TheVariants.{MonitoringKey, UsedServiceUnit, UsageMonitoringLevel}
 use Rattle.avp.specs.Octets.{u32_at, padded}
 use Rattle.avp.specs.Fields as field
-use Rattle.group.specs.Walk.{then, avps, gather}
+use Rattle.group.specs.Walk.{avps, gather}
 use Rattle.group.specs.Members.{member, ended}
 use Rattle.key.specs.declared.key.Key.{Key}
-use Rattle.key.specs.Keys.{key_long, key_of, octets_of}
+use Rattle.key.specs.Keys.{key_long, octets_of}
 use Rattle.units.specs.declared.values.Level.{Level}
 use Rattle.units.specs.declared.values.Units.{Units}
 use Rattle.units.specs.Limits.{limits_of, level_of}
@@ -17,8 +17,8 @@ use Rattle.information.specs.declared.values.ReportGroup.{ReportGroup}
 use Rattle.information.specs.declared.values.ReportGroupSoFar.{ReportGroupSoFar}
 use Rattle.information.specs.Report.{begun, puts, read_report_group, rules}
 use Rattle.draft.specs.Octets.{be32, written}
-use Rattle.wire.specs.Octets.{key_avp, units_avp, number_avp, level_number, units_data, report_data}
-use Rattle.trip.specs.Own.{OwnUnits, OwnReported, reported}
+use Rattle.wire.specs.Octets.{key_avp, units_avp, number_avp, level_number, report_data}
+use Rattle.trip.specs.Own.{OwnReported, reported}
 use Rattle.trip.proofs.First.{seen}
 use Rattle.trip.proofs.Few.{data_short, head_short, tail_short}
 use Rattle.trip.proofs.Undo.{then_undo, unstep, undo_last, undo_32, undo_key, again_32, small_left, small_right, small_data}

@@ -1,17 +1,15 @@
 -- One written AVP is one step of the reader.
-use Rattle.std.proofs.Common.{◌≡◌, ℕ, zero, suc, ◌+◌, ◌-◌, ◌*◌, ◌/◌, ◌%◌, ◌^◌, ◌<◌, ◌≤◌, Bool, true, false, cond, ◌&&◌, eqb, leb, List, [], ◌∷◌, ◌++◌, length, Some, None, Ok, Err, Option, Result, sym, refl, ap, ◌∙◌, append-nil, arith, length-append}
+use Rattle.std.proofs.Common.{◌≡◌, ℕ, ◌+◌, ◌*◌, ◌/◌, ◌%◌, ◌^◌, ◌<◌, ◌≤◌, true, cond, eqb, List, [], ◌++◌, length, Some, None, Ok, Err, Option, sym, refl, ap, ◌∙◌, arith, length-append}
 use native.Mathlib.Nat.{div-div-eq-div-mul}
 use Rattle.std.proofs.lemmas.Bool.{cond-true}
-use Rattle.std.proofs.lemmas.Bool.Decides.{nat_tests}
 use Rattle.fault.specs.declared.Code.TheVariants.{Width}
-use Rattle.fault.specs.declared.Fault.{Fault}
 use Rattle.fault.specs.Numbers.{message_fault}
 use Rattle.avp.specs.declared.name.Name.{Name}
 use Rattle.avp.specs.declared.field.Limits.{Limits}
-use Rattle.avp.specs.Octets.{u32_at, u64_at, padded}
-use Rattle.avp.specs.Header.{Span, Parsed, first_avp}
-use Rattle.avp.specs.Names.{code_of, vendor_of, name_of}
-use Rattle.avp.specs.Fields.{Value, Number, Key, Group, Unsigned32, Unsigned64, KeyOctets, allows, ranged, value_by, value_of}
+use Rattle.avp.specs.Octets.{u32_at, u64_at}
+use Rattle.avp.specs.Header.{Span, Parsed}
+use Rattle.avp.specs.Names.{vendor_of}
+use Rattle.avp.specs.Fields.{Value, Number, Key, Unsigned32, Unsigned64, KeyOctets, allows, ranged, value_by, value_of}
 use Rattle.group.specs.Walk.{then, avps, gather}
 use Rattle.group.specs.Shapes as shape
 use Rattle.group.specs.Members.{Rules, named, member, ended, read_group}

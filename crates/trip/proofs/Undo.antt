@@ -1,15 +1,15 @@
 -- A step of the reader that was taken, undone: what it found, and what is left.
-use Rattle.std.proofs.Common.{◌≡◌, ℕ, zero, suc, ◌+◌, ◌*◌, ◌/◌, ◌%◌, ◌<◌, ◌≤◌, Bool, true, false, cond, ◌&&◌, eqb, List, [], ◌∷◌, ◌++◌, length, get_or, Some, None, Ok, Err, Option, Result, sym, refl, ap, ◌∙◌, append-nil, arith}
+use Rattle.std.proofs.Common.{◌≡◌, ℕ, zero, suc, ◌+◌, ◌*◌, ◌/◌, ◌%◌, ◌<◌, Bool, true, false, cond, List, [], ◌∷◌, ◌++◌, length, get_or, Ok, Err, Result, sym, refl, ap, ◌∙◌, append-nil, arith}
 use Rattle.std.proofs.lemmas.Bool.{cond-true, eqb-true}
 use Rattle.fault.specs.declared.Fault.{Fault}
 use Rattle.avp.specs.declared.name.Name.{Name}
 use Rattle.avp.specs.declared.field.Limits.{Limits}
 use Rattle.avp.specs.Octets.{u32_at, u64_at}
-use Rattle.avp.specs.Header.{Span, Parsed}
-use Rattle.avp.specs.Fields.{Value, Number, Key, Group, Unsigned32, Unsigned64, KeyOctets, allows, ranged, value_by, value_of}
+use Rattle.avp.specs.Header.{Parsed}
+use Rattle.avp.specs.Fields.{Value, Number, Key, Unsigned32, Unsigned64, KeyOctets, allows, value_by, value_of}
 use Rattle.group.specs.Walk.{then, avps, gather, linked}
 use Rattle.group.specs.Shapes as shape
-use Rattle.group.specs.Members.{Rules, named, member, ended}
+use Rattle.group.specs.Members.{Rules, named, member}
 use Rattle.group.proofs.Walks.{avps_step, gather_ends}
 use Rattle.key.specs.Keys.{key_long}
 use Rattle.draft.specs.Octets.{be32, be64, header_of, padding_of, written}

@@ -1,16 +1,13 @@
 -- A unit group reads back.
-use Rattle.std.proofs.Common.{◌≡◌, ℕ, ◌+◌, ◌^◌, ◌<◌, ◌≤◌, Bool, true, false, cond, ◌&&◌, leb, List, [], ◌∷◌, ◌++◌, length, Some, None, Ok, Err, Option, Result, sym, refl, ap, ◌∙◌, append-nil, arith}
+use Rattle.std.proofs.Common.{◌≡◌, ℕ, ◌^◌, ◌<◌, ◌≤◌, Bool, true, false, leb, List, [], ◌++◌, length, Some, None, Ok, Option, sym, refl, ap, ◌∙◌, append-nil, arith}
 use Rattle.std.proofs.lemmas.Bool.{and_parts, leb-true}
 use Rattle.avp.specs.declared.name.Name.{Name}
 use Rattle.avp.specs.declared.name.Name.TheVariants.{CcInputOctets, CcOutputOctets, CcTotalOctets}
-use Rattle.avp.specs.declared.field.Limits.{Limits}
-use Rattle.avp.specs.Header.{Span}
 use Rattle.avp.specs.Fields.{Number, allows}
 use Rattle.group.specs.Walk.{avps, gather}
 use Rattle.group.specs.Members.{member}
 use Rattle.units.specs.declared.values.Units.{Units}
 use Rattle.units.specs.declared.values.Units.TheVariants.{Total, Uplink, Downlink, Both}
-use Rattle.units.specs.declared.values.UnitsSoFar.{UnitsSoFar}
 use Rattle.units.specs.Limits.{limits_of}
 use Rattle.units.specs.Units.{no_units, read_units, unit_rules}
 use Rattle.draft.specs.Octets.{be64, written}

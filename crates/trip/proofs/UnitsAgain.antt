@@ -1,9 +1,8 @@
 -- A unit group in the writer's own form is written again exactly.
-use Rattle.std.proofs.Common.{◌≡◌, ℕ, ◌+◌, ◌<◌, Bool, true, false, cond, List, [], ◌∷◌, ◌++◌, length, get_or, Some, None, Ok, Err, Option, Result, sym, refl, ap, ◌∙◌, arith, length-append}
-use Rattle.avp.specs.declared.name.Name.{Name}
+use Rattle.std.proofs.Common.{◌≡◌, ℕ, ◌+◌, ◌<◌, Bool, List, [], ◌++◌, length, get_or, Some, None, Ok, Result, sym, refl, ap, ◌∙◌}
 use Rattle.avp.specs.declared.name.Name.TheVariants.{CcInputOctets, CcOutputOctets, CcTotalOctets}
 use Rattle.avp.specs.Octets.{u64_at, padded}
-use Rattle.group.specs.Walk.{then, avps, gather}
+use Rattle.group.specs.Walk.{avps, gather}
 use Rattle.group.specs.Members.{member, ended}
 use Rattle.units.specs.declared.values.Units.{Units}
 use Rattle.units.specs.declared.values.Units.TheVariants.{Total, Uplink, Downlink, Both}

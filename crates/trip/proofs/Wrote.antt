@@ -1,5 +1,5 @@
 -- What holds of the octets of a message holds of what a writer leaves.
-use Rattle.std.proofs.Common.{◌≡◌, ℕ, ◌≤◌, min, Bool, true, false, cond, leb, List, ◌++◌, length, take, drop, replicate, IfOk, Some, None, Ok, Err, Option, Result, sym, refl, ap, ◌∙◌, subst, arith}
+use Rattle.std.proofs.Common.{◌≡◌, ℕ, ◌≤◌, min, Bool, true, false, cond, leb, List, ◌++◌, length, take, drop, replicate, IfOk, Some, None, Ok, Err, Option, Result, sym, refl, subst, arith}
 use Rattle.std.proofs.lemmas.List.{length-take, take_at}
 use Rattle.fault.specs.declared.Code.TheVariants.{Short}
 use Rattle.fault.specs.declared.Fault.{Fault}

@@ -1,5 +1,8 @@
 //! The writers of messages with what they promise to readers: what was written reads back as it was meant, and octets in
 //! the writer's own form are written again exactly. The crate below writes; what is added here are the theorems.
+
+#![tactic(auto)]
+
 ghost use Rattle.std.specs.Prelude.{◌≡◌, ℕ, List, length, take, IfOk, Ok};
 ghost use Rattle.message.specs.Commands.{orders, read_command};
 ghost use Rattle.message.specs.Numbered.{message as meant, read_answer, read_report};

@@ -1,10 +1,10 @@
 -- A draft that was begun, and then finished or given up.
-use Rattle.std.proofs.Common.{◌≡◌, ℕ, ◌+◌, true, false, leb, List, [], ◌∷◌, ◌++◌, length, take, drop, replicate, IsErrAnd, None, Ok, Err, Result, sym, refl, ap, ◌∙◌, subst, arith, take-append-drop}
+use Rattle.std.proofs.Common.{◌≡◌, ℕ, ◌+◌, leb, List, ◌++◌, length, take, drop, replicate, IsErrAnd, None, Ok, Err, Result, sym, ap, ◌∙◌, arith, take-append-drop}
 use Rattle.std.proofs.lemmas.Result.{err_from_is_err_and}
 use Rattle.std.proofs.lemmas.Bool.{cond-true, cond-false}
 use Rattle.fault.specs.declared.Fault.{Fault}
 use Rattle.draft.specs.declared.draft.Draft.{Draft}
-use Rattle.draft.specs.Drafts.{Put, text, left}
+use Rattle.draft.specs.Drafts.{Put}
 use Rattle.wire.specs.Sound.{outcome, afterwards}
 
 module _ {a c : Draft} {x : List ℕ} {was : List ℕ} (none : a.len ≡ 0) (same : a.out.now ≡ was) where

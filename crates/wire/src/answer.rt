@@ -1,7 +1,7 @@
 ghost use Rattle.std.specs.Prelude.{◌≡◌, ◌≤◌, length};
 ghost use Rattle.draft.specs.Drafts.{Put};
 ghost use Rattle.wire.specs.Octets.{answer_data, granted_data, terms_data};
-ghost use Rattle.wire.specs.Lengths.{answer-four};
+ghost use Rattle.wire.specs.Lengths.{answer_four};
 
 use crate::parts::{key_size, put_key, put_level, put_units, units_size};
 use crate::written::Written;
@@ -38,7 +38,7 @@ fn put_terms(draft: &mut Draft, level: Level, granted: Option<Units>) -> Result<
 impl Written for AnswerGroup {
     ghost octets = { answer_data };
 
-    ghost four = { answer-four };
+    ghost four = { answer_four };
 
     fn size(&self) -> u16 {
         key_size(&self.key) + 16 + granted_size(self.granted)

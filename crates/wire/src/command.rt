@@ -2,7 +2,7 @@ ghost use Rattle.std.specs.Prelude.{◌≡◌, length, Some};
 ghost use Rattle.information.specs.declared.values.Order.TheVariants.{Disable, Request};
 ghost use Rattle.draft.specs.Drafts.{Put};
 ghost use Rattle.wire.specs.Octets.{command_data, order_data};
-ghost use Rattle.wire.specs.Lengths.{command-four};
+ghost use Rattle.wire.specs.Lengths.{command_four};
 
 use crate::parts::{counted_size, key_size, put_counted, put_key, put_number};
 use crate::written::Written;
@@ -64,7 +64,7 @@ fn put_order(draft: &mut Draft, order: Order) -> Result<(), Fault>
 impl Written for CommandGroup {
     ghost octets = { command_data };
 
-    ghost four = { command-four };
+    ghost four = { command_four };
 
     fn size(&self) -> u16 {
         order_size(self.order)

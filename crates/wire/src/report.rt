@@ -1,5 +1,5 @@
 ghost use Rattle.wire.specs.Octets.{report_data};
-ghost use Rattle.wire.specs.Lengths.{report-four};
+ghost use Rattle.wire.specs.Lengths.{report_four};
 
 use crate::parts::{counted_size, put_counted};
 use crate::written::Written;
@@ -11,7 +11,7 @@ use information::ReportGroup;
 impl Written for ReportGroup {
     ghost octets = { report_data };
 
-    ghost four = { report-four };
+    ghost four = { report_four };
 
     fn size(&self) -> u16 {
         counted_size(&self.key, self.used)

@@ -11,12 +11,12 @@ use Rattle.trip.proofs.write_command.Goals as goal
 
 pub returns : goal.returns
 returns c = record {
-  value = c.write-command.ensures.value;
-  after = c.write-command.ensures.after;
+  value = c.write_command.ensures.value;
+  after = c.write_command.ensures.after;
   back =
       wrote (λ bs. read_command bs ≡ Ok (placed command_at command_data 0 (orders c.args.command.now))) (command_fault (orders c.args.command.now)) (command_octets (orders c.args.command.now)) _ _ _
-      (commands_back (orders c.args.command.now) (sixteen c.args.command.now.groups)) c.write-command.ensures.value c.write-command.ensures.after;
+      (commands_back (orders c.args.command.now) (sixteen c.args.command.now.groups)) c.write_command.ensures.value c.write_command.ensures.after;
   again =
       wrote (λ ws. (bs : List ℕ) → Octets bs → OwnGroups OwnOrdered bs → read_command bs ≡ Ok (orders c.args.command.now) → ws ≡ bs) (command_fault (orders c.args.command.now)) (command_octets (orders c.args.command.now)) _ _ _
-      (λ sound bs ok own e. commands_again bs ok own (orders c.args.command.now) e) c.write-command.ensures.value c.write-command.ensures.after;
+      (λ sound bs ok own e. commands_again bs ok own (orders c.args.command.now) e) c.write_command.ensures.value c.write_command.ensures.after;
 }

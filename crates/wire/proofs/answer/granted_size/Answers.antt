@@ -6,8 +6,8 @@ use Rattle.wire.proofs.answer.granted_size.Goals as goal
 pub returns-in-Some : goal.returns-in-Some
 returns-in-Some c = record {
   value =
-      ap (λ (n : ℕ). 8 + n) c.units-size.ensures.value
+      ap (λ (n : ℕ). 8 + n) c.units_size.ensures.value
       ∙ sym (granted_length c.in-Some.units)
       ∙ ap (λ o. length (granted_data o)) (sym c.in-Some.is);
-  bound = omega (arith, c.units-size.ensures.bound);
+  bound = omega (arith, c.units_size.ensures.bound);
 }

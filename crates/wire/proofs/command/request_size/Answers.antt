@@ -9,6 +9,6 @@ returns-in-None c = sym asked_length ∙ ap (λ k. length (order_data (Request k
 
 pub returns-in-Some : goal.returns-in-Some
 returns-in-Some c =
-    ap (λ (n : ℕ). 16 + n) c.key-size.ensures.value
+    ap (λ (n : ℕ). 16 + n) c.key_size.ensures.value
     ∙ sym (request_length c.in-Some.key)
     ∙ ap (λ k. length (order_data (Request k))) (sym c.in-Some.is)

@@ -3,4 +3,4 @@ use Rattle.wire.proofs.parts.put_key.Goals as goal
 
 pub returns : goal.returns
 unfolding key_avp
-returns c = c.put-key.ensures
+returns c = c.put_key.ensures

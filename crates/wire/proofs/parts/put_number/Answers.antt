@@ -3,4 +3,4 @@ use Rattle.wire.proofs.parts.put_number.Goals as goal
 
 pub returns : goal.returns
 unfolding number_avp
-returns c = c.put-number.ensures
+returns c = c.put_number.ensures

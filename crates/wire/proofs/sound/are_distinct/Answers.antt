@@ -4,12 +4,12 @@ use Rattle.message.specs.Keyed.{has_key}
 use Rattle.wire.proofs.Checks.{distinct_fails, distinct_turn, distinct_end}
 use Rattle.wire.proofs.sound.are_distinct.Goals as goal
 
-pub returns-then-has-key : goal.returns-then-has-key
-returns-then-has-key g c =
+pub returns-then-has_key : goal.returns-then-has_key
+returns-then-has_key g c =
     let old : has_key g.V.Entry.keyed (g.V.Entry.keyed c.index-groups-i.result) (take c.loop-i.i c.args.groups.now) ≡ true =
     ap (λ (n : ℕ). has_key g.V.Entry.keyed (g.V.Entry.keyed c.index-groups-i.result) (take n c.args.groups.now)) (sym (sub-zero c.loop-i.i))
     ∙ ap (λ k. has_key g.V.Entry.keyed k (take (c.loop-i.i - 0) c.args.groups.now)) (sym c.key.ensures)
-    ∙ sym c.if-has-key.ensures in
+    ∙ sym c.if-has_key.ensures in
     sym (distinct_fails c.args.groups.now c.loop-i.i g.V.Entry.keyed c.index-groups-i.result c.loop-i-test.true c.index-groups-i.is old)
     ∙ c.loop-i.invariant
 
@@ -18,7 +18,7 @@ loop-i-preserved g c =
     let fresh : has_key g.V.Entry.keyed (g.V.Entry.keyed c.index-groups-i.result) (take c.loop-i.i c.args.groups.now) ≡ false =
     ap (λ (n : ℕ). has_key g.V.Entry.keyed (g.V.Entry.keyed c.index-groups-i.result) (take n c.args.groups.now)) (sym (sub-zero c.loop-i.i))
     ∙ ap (λ k. has_key g.V.Entry.keyed k (take (c.loop-i.i - 0) c.args.groups.now)) (sym c.key.ensures)
-    ∙ sym c.if-has-key.ensures in
+    ∙ sym c.if-has_key.ensures in
     sym (distinct_turn c.args.groups.now c.loop-i.i g.V.Entry.keyed c.index-groups-i.result c.loop-i-test.true c.index-groups-i.is fresh)
     ∙ c.loop-i.invariant
 

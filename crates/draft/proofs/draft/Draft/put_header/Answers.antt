@@ -1,4 +1,4 @@
-use Rattle.std.proofs.Common.{sym, ap, ◌∙◌}
+use Rattle.std.proofs.Common.{ap, ◌∙◌}
 use Rattle.avp.specs.Names.{code_of}
 use Rattle.draft.specs.Octets.{header_by, vendor_header}
 use Rattle.draft.proofs.Puts.{put_same}
@@ -9,7 +9,7 @@ returns-in-Some c = record {
   lent = c.put-in-Some.ensures.lent;
   put =
       put_same
-      (c.vendor-header.ensures
+      (c.vendor_header.ensures
       ∙ ap (λ k. vendor_header k c.in-Some.vendor c.args.size) c.code-in-Some.ensures
       ∙ ap (λ o. header_by (code_of c.args.avp) o c.args.size) c.in-Some.ensures)
       c.put-in-Some.ensures.put;

@@ -5,6 +5,6 @@ use Rattle.draft.proofs.draft.Draft.put_octets.Goals as goal
 
 pub returns : goal.returns
 returns c = record {
-  lent = c.put.ensures.lent ∙ c.in-ok-put-header.ensures.lent;
-  put = put_then c.in-ok-put-header.ensures.put (put_same (c.to-be-bytes.ensures ∙ be64_bytes c.args.n) c.put.ensures.put);
+  lent = c.put.ensures.lent ∙ c.in_ok-put_header.ensures.lent;
+  put = put_then c.in_ok-put_header.ensures.put (put_same (c.to_be_bytes.ensures ∙ be64_bytes c.args.n) c.put.ensures.put);
 }

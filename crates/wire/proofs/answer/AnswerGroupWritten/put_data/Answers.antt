@@ -2,14 +2,14 @@ use Rattle.std.proofs.Common.{◌∙◌}
 use Rattle.draft.proofs.Puts.{put_then, put_breaks}
 use Rattle.wire.proofs.answer.AnswerGroupWritten.put_data.Goals as goal
 
-pub returns-in-err-put-key : goal.returns-in-err-put-key
-returns-in-err-put-key c = record {
-  lent = c.in-err-put-key.ensures.lent;
-  put = put_breaks _ _ c.from-residual.ensures.1 c.in-err-put-key.ensures.put;
+pub returns-in_err-put_key : goal.returns-in_err-put_key
+returns-in_err-put_key c = record {
+  lent = c.in_err-put_key.ensures.lent;
+  put = put_breaks _ _ c.from_residual.ensures.1 c.in_err-put_key.ensures.put;
 }
 
 pub returns : goal.returns
 returns c = record {
-  lent = c.put-terms.ensures.lent ∙ c.in-ok-put-key.ensures.lent;
-  put = put_then c.in-ok-put-key.ensures.put c.put-terms.ensures.put;
+  lent = c.put_terms.ensures.lent ∙ c.in_ok-put_key.ensures.lent;
+  put = put_then c.in_ok-put_key.ensures.put c.put_terms.ensures.put;
 }

@@ -3,4 +3,4 @@ use Rattle.wire.specs.Lengths.{answer_length}
 use Rattle.wire.proofs.answer.AnswerGroupWritten.size.Goals as goal
 
 pub returns : goal.returns
-returns c = omega (arith, answer_length c.args.self.now, c.key-size.ensures.value, c.granted-size.ensures.value)
+returns c = omega (arith, answer_length c.args.self.now, c.key_size.ensures.value, c.granted_size.ensures.value)
