@@ -1,5 +1,8 @@
 //! A counter bank: sixteen places, each with an uplink and a downlink count of octets, under a ceiling that each bank
 //! names. The trait says what every bank means and promises; it knows no bank.
+
+#![tactic(auto)]
+
 ghost use Rattle.std.specs.Prelude.{◌≡◌, ℕ, ◌≤◌, List, length};
 ghost use Rattle.bank.specs.declared.counts.Counts.{Counts};
 ghost use Rattle.bank.specs.Calls.{added, counts_at, taken_out};
@@ -21,7 +24,7 @@ pub trait Bank {
     /// What no count may pass: a number from 65,535 to 1,099,511,627,775.
     const CEILING: u64;
 
-    // A clause cannot name the constant. This is its value, and `top` ties the two.
+    // The value of the constant, for clauses; `top` ties the two.
     ghost ceiling: { ℕ };
 
     // The meaning: the counts of place 0, of place 1 and so on.

@@ -23,7 +23,7 @@ pub fn array<T, const N: usize>(store: &mut [T]) -> Result<&mut [T; N], Fault>
     Ok(whole(store))
 }
 
-// The same words under the same name. A slice cannot be turned into an array that is lent on without a cast.
+// The same words under the same name. A cast, since std's `as_mut_array` does not promise the name.
 fn whole<T, const N: usize>(store: &mut [T]) -> &mut [T; N]
     requires { length store.old ≡ N }
     ensures { (result.now ≡ store.old) × (result.ghost_name ≡ store.entry.ghost_name) }

@@ -1,4 +1,7 @@
 //! One function over any bank, proved once from what every bank means, and run on both.
+
+#![tactic(auto)]
+
 ghost use Rattle.std.specs.Prelude.{◌≡◌};
 ghost use Rattle.either_bank.specs.Passed.{passed};
 
@@ -7,8 +10,8 @@ use fault::{Code, Fault};
 
 /// Adds to both counts of a place, or to neither, and then takes both out.
 pub fn pass<B: Bank>(bank: &mut B, place: usize, more: Counts) -> Result<Counts, Fault>
-    ensures leaves { counts bank.new ≡ (passed ceiling (counts bank.old) place more).0 }
-    ensures answers { result ≡ (passed ceiling (counts bank.old) place more).1 }
+    ensures leaves { B.counts bank.new ≡ (passed B.ceiling (B.counts bank.old) place more).0 }
+    ensures answers { result ≡ (passed B.ceiling (B.counts bank.old) place more).1 }
 {
     let had = bank.read(place)?;
     let top = B::top();

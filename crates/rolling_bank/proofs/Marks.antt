@@ -1,5 +1,5 @@
 -- Words in which each mark stands at its counter.
-use Rattle.std.proofs.Common.{◌≡◌, ℕ, ◌+◌, ◌-◌, ◌<◌, List, ◌++◌, length, get_or, sym, ap, ◌∙◌, arith}
+use Rattle.std.proofs.Common.{◌≡◌, ℕ, ◌+◌, ◌<◌, List, ◌++◌, length, get_or, sym, ap, ◌∙◌, arith}
 use Rattle.std.proofs.lemmas.List.{same_lists, take-append-drop, length-take-le, length-drop, get_or-take, get_or-drop, get_or_default}
 use Rattle.bank.specs.Meaning.{empty}
 use Rattle.bank.proofs.Places.{places_empty}

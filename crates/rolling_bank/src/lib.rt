@@ -1,5 +1,8 @@
 //! A counter bank over the counters of a user plane, which only count up, modulo 4,294,967,296, and over a mark beside
 //! each. The caller lends both as sixty-four words of 32 bits. It knows no other bank.
+
+#![tactic(auto)]
+
 ghost use Rattle.std.specs.Prelude.{◌≡◌, ◌+◌, ◌*◌, ◌<◌, ◌++◌, length, is_ok, if◌then◌else◌, slice_index};
 ghost use Rattle.std.proofs.Common.{lit≤};
 ghost use Rattle.bank.specs.Calls.{added, taken_out};

@@ -1,5 +1,5 @@
 -- What a call does to the meaning of the words that it writes.
-use Rattle.std.proofs.Common.{◌≡◌, ℕ, ◌+◌, ◌<◌, ◌≤◌, min, List, length, get_or, set, replicate, Ok, ap, ◌∙◌, arith, length-set}
+use Rattle.std.proofs.Common.{◌≡◌, ℕ, ◌+◌, ◌<◌, ◌≤◌, min, List, length, set, replicate, Ok, ap, ◌∙◌, arith, length-set}
 use lib.ListN.{get_or-replicate}
 use Rattle.std.proofs.lemmas.List.{get_or-set_same, get_or-set_other}
 use Rattle.bank.specs.Calls.{added, taken_out}

@@ -1,4 +1,7 @@
 //! A counter bank over thirty-two words of 64 bits that the caller lends. It knows no other bank.
+
+#![tactic(auto)]
+
 ghost use Rattle.std.specs.Prelude.{◌≡◌, ◌+◌, ◌<◌, length, replicate};
 ghost use Rattle.std.proofs.Common.{lit≤};
 ghost use Rattle.bank.specs.Meaning.{empty};

@@ -102,9 +102,9 @@ module _ (X : RattleType) (n : ℕ) {M : Type 1} {𝓤 : Ura M} (𝓛 : Logic �
       move ! (1 ∷ []) $ split3 ! $ drop ! $ drop ! $ split ! $ drop ! $ learn ! (λ e. drop ! $
       by ! (walk 𝓣.C 𝓣.Λ κs.0 κs.1.0 κs.1.1.0 qs.0 qs.1.0 qs.1.1.0 bounds a.0.ref_ptr.0 a.0.ref_ptr.1 a.0.ghost_name a.0.now are.0.0.1.0 e))))
 
-pub whole-spec : {M : Type 1} → stated.statement M
+pub whole_spec : {M : Type 1} → stated.statement M
 unfolding tables_of
-whole-spec 𝓤 𝓛 𝓜 𝓡 wired X n L fn =
+whole_spec 𝓤 𝓛 𝓜 𝓡 wired X n L fn =
     let A = 𝓛.A in
     let 𝓣 : Tables 𝓤 𝓛.H = tables_of 𝓤 𝓛.H 𝓜 (tables 𝓤 𝓛.H 𝓜 𝓡 𝓡.env) in
     entered 𝓤 𝓛.H (triple_of 𝓛 (ended X n).signature (F.spec X (number n) 𝓛 𝓜.mem 𝓡.returns)) 𝓣.C 𝓣.Λ (#self (args X n)) (fn' X n) (code.unfolded 𝓤 𝓛.H 𝓜 𝓡 wired (X, (number n, tt)))

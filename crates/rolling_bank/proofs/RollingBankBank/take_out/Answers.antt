@@ -8,8 +8,8 @@ use Rattle.rolling_bank.proofs.RollingBankBank.take_out.Goals as goal
 pub returns : goal.returns
 returns c =
     let ws = c.args.self.now.words.now in
-    let k = c.in-ok-slot.slot in
-    let found = sym c.in-ok-slot.ensures in
+    let k = c.in_ok-slot.slot in
+    let found = sym c.in_ok-slot.ensures in
     let first : k ≡ 2 * c.args.place = omega (arith, (slot_found c.args.place 0 k found).slot) in
     let one = set ws (32 + k) (get_or ws k 0) in
     let moved = ap (set one (33 + k)) (get_or-set_other ws (32 + k) (k + 1) (get_or ws k 0) 0 (omega arith)) in

@@ -6,4 +6,4 @@ use Rattle.word_bank.proofs.WordBankBank.read.Goals as goal
 pub returns : goal.returns
 returns c =
     ap Ok c.counts.ensures.value
-    ∙ sym (read_finds (count_at c.args.self.now.words.now) c.args.place c.in-ok-slot.slot (sym c.in-ok-slot.ensures))
+    ∙ sym (read_finds (count_at c.args.self.now.words.now) c.args.place c.in_ok-slot.slot (sym c.in_ok-slot.ensures))
