@@ -1,6 +1,6 @@
 -- Lists with one more at their end, and what stands at a place of them. Assumes nothing.
-use Rattle.std.proofs.Common.{◌≡◌, ℕ, zero, suc, ◌+◌, ◌<◌, ◌≤◌, Bool, true, false, cond, ◌⊎◌, List, [], ◌∷◌, ◌++◌, map, length, take, is_some, Some, None, Option, sym, refl, ap, ◌∙◌, subst, ap₂, inl, inr, arith}
-use Rattle.std.specs.List.{slice_get, AllByRecursion as All}
+use Rattle.std.proofs.Common.{◌≡◌, ℕ, zero, suc, ◌<◌, ◌≤◌, ◌⊎◌, List, [], ◌∷◌, ◌++◌, length, take, is_some, Some, None, Option, refl, ap, subst, inl, inr, arith}
+use Rattle.std.specs.List.{slice_get, AllByRecursion}
 use Rattle.std.proofs.lemmas.Bool.{false≢true}
 
 module _ {X : Type 0} where
@@ -34,7 +34,7 @@ module _ {X : Type 0} where
   take_push [] x (suc n) h = absurd (omega arith)
   take_push (y ∷ xs) x (suc n) h = ap (◌∷◌ y) (take_push xs x n (omega arith))
 
-  pub all_nth : (P : X → Type 0) (xs : List X) (n : ℕ) (x : X) → All P xs → slice_get xs n ≡ Some x → P x
+  pub all_nth : (P : X → Type 0) (xs : List X) (n : ℕ) (x : X) → AllByRecursion P xs → slice_get xs n ≡ Some x → P x
   all_nth P [] n x h e = absurd (false≢true (ap is_some e))
   all_nth P (y ∷ xs) zero x h e = subst (λ o. of o) e h.0
     where

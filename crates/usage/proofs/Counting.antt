@@ -1,6 +1,5 @@
 -- Traffic: what it adds, under each key. Assumes nothing.
-use Rattle.std.proofs.Common.{◌≡◌, ℕ, suc, ◌+◌, ◌≤◌, Bool, true, false, cond, not, ◌&&◌, ◌||◌, eqb, ◌⊎◌, List, [], ◌∷◌, ◌++◌, map, is_some, Some, None, Option, sym, refl, ap, ◌∙◌, subst, ap₂, inl, inr, arith}
-use Rattle.std.specs.List.{AllByRecursion as All}
+use Rattle.std.proofs.Common.{◌≡◌, ℕ, ◌+◌, Bool, true, false, cond, not, eqb, List, [], ◌∷◌, ◌++◌, map, Some, None, Option, sym, refl, ap, ◌∙◌, ap₂, inl, arith}
 use Rattle.std.proofs.ByRecursion.{All-weaker}
 use Rattle.std.proofs.lemmas.Bool.{and_parts, eqb-true, false≢true}
 use Rattle.key.specs.declared.key.Key.{Key}
@@ -10,17 +9,15 @@ use Rattle.units.specs.declared.values.Units.TheVariants.{Total, Uplink, Downlin
 use Rattle.bank.specs.declared.counts.Counts.{Counts}
 use Rattle.bank.specs.Meaning.{raised}
 use Rattle.usage.specs.declared.values.Place.{Place}
-use Rattle.usage.specs.declared.values.Rule.{Rule}
 use Rattle.usage.specs.Forms.{covers, met}
 use Rattle.usage.specs.Tables.{gathered}
-use Rattle.usage.specs.Slots.{Slot, changed_in, closing, counts, has_key, holds, in_report, is_session, judged, octets_at, passes, reached_if, with_reason}
-use Rattle.usage.specs.Rules.{is_key}
+use Rattle.usage.specs.Slots.{Slot, changed_in, closing, counts, has_key, holds, in_report, judged, octets_at, passes, reached_if, with_reason}
 use Rattle.usage.specs.Traffic.{raised_at, takes}
 use Rattle.usage.specs.Reports.{sent_at, sent_groups}
 use Rattle.usage.specs.Runs.{amount_at}
 use Rattle.usage.specs.Totals.{under}
-use Rattle.usage.proofs.Inv.{Covered, Noted, PlaceOk, SlotAt, SlotOk, SlotsOk, pending_sum}
-use Rattle.usage.proofs.Each.{Each, Kept, each_map, key_at, key_in, slots_ok}
+use Rattle.usage.proofs.Inv.{Covered, PlaceOk, SlotAt, SlotOk, SlotsOk, pending_sum}
+use Rattle.usage.proofs.Each.{Kept, each_map, key_at, key_in, slots_ok}
 use Rattle.usage.proofs.Judging.{judged_ok}
 use Rattle.usage.proofs.Orders.{Alike, alike_sent}
 use Rattle.usage.proofs.Sums.{under_append}

@@ -1,6 +1,6 @@
 -- Changes of slots one by one, and of the first that passes a test. Assumes nothing.
-use Rattle.std.proofs.Common.{◌≡◌, ℕ, suc, ◌+◌, ◌≤◌, Bool, true, false, cond, ◌⊎◌, List, [], ◌∷◌, ◌++◌, map, length, Some, None, Option, sym, refl, ap, ◌∙◌, subst, ap₂, inl, inr, arith}
-use Rattle.std.specs.List.{AllByRecursion as All}
+use Rattle.std.proofs.Common.{◌≡◌, ℕ, suc, ◌+◌, ◌≤◌, Bool, true, false, cond, ◌⊎◌, List, [], ◌∷◌, ◌++◌, map, length, Some, None, Option, sym, refl, ap, ◌∙◌, ap₂, inl, inr, arith}
+use Rattle.std.specs.List.{AllByRecursion}
 use Rattle.key.specs.declared.key.Key.{Key}
 use Rattle.usage.specs.declared.values.Place.{Place}
 use Rattle.usage.specs.Tables.{at_first, tally}
@@ -17,15 +17,15 @@ Each R (s ∷ ss) [] = ⊥
 Each R (s ∷ ss) (t ∷ ts) = R s t × Each R ss ts
 
 module _ (R : Slot → Slot → Type 0) where
-  pub each_map : (f : Slot → Slot) (ss : List Slot) → All (λ s. R s (f s)) ss → Each R ss (map f ss)
+  pub each_map : (f : Slot → Slot) (ss : List Slot) → AllByRecursion (λ s. R s (f s)) ss → Each R ss (map f ss)
   each_map f [] h = tt
   each_map f (s ∷ ss) h = (h.0, each_map f ss h.1)
 
-  pub each_same : (ss : List Slot) → All (λ s. R s s) ss → Each R ss ss
+  pub each_same : (ss : List Slot) → AllByRecursion (λ s. R s s) ss → Each R ss ss
   each_same [] same = tt
   each_same (s ∷ ss) same = (same.0, each_same ss same.1)
 
-  pub each_first : (p : Slot → Bool) (f : Slot → Slot) (ss : List Slot) → All (λ s. R s s) ss → All (λ s. p s ≡ true → R s (f s)) ss → Each R ss (at_first p f ss)
+  pub each_first : (p : Slot → Bool) (f : Slot → Slot) (ss : List Slot) → AllByRecursion (λ s. R s s) ss → AllByRecursion (λ s. p s ≡ true → R s (f s)) ss → Each R ss (at_first p f ss)
   each_first p f [] same h = tt
   each_first p f (s ∷ ss) same h = go (each_first p f ss same.1 h.1) (p s) refl
     where
@@ -34,7 +34,7 @@ module _ (R : Slot → Slot → Type 0) where
       go more false e = (same.0, more)
 
   -- the first slot that has a key is the one of its place
-  pub each_keyed : (k : Key) (f : Slot → Slot) (p : Place) → ((s : Slot) → s.place ≡ Some p → R s s → R s (f s)) → (ss : List Slot) → All (λ s. R s s) ss → place_of k ss ≡ Some p → Each R ss (at_first (holds (has_key k)) f ss)
+  pub each_keyed : (k : Key) (f : Slot → Slot) (p : Place) → ((s : Slot) → s.place ≡ Some p → R s s → R s (f s)) → (ss : List Slot) → AllByRecursion (λ s. R s s) ss → place_of k ss ≡ Some p → Each R ss (at_first (holds (has_key k)) f ss)
   each_keyed k f p h [] same e = tt
   each_keyed k f p h (s ∷ ss) same e = go (λ found. each_keyed k f p h ss same.1 found) s.place refl e
     where
@@ -80,7 +80,7 @@ module _ (ceiling : ℕ) where
   each_wide R (s ∷ ss) [] h = absurd h
   each_wide R (s ∷ ss) (t ∷ ts) h = ap suc (each_wide R ss ts h.1)
 
-  each_ok : (ss ts : List Slot) → Each (Kept ceiling) ss ts → All (SlotOk ceiling) ts
+  each_ok : (ss ts : List Slot) → Each (Kept ceiling) ss ts → AllByRecursion (SlotOk ceiling) ts
   each_ok [] [] h = tt
   each_ok [] (t ∷ ts) h = absurd h
   each_ok (s ∷ ss) [] h = absurd h

@@ -1,13 +1,12 @@
 -- Answer keeps what holds. Assumes nothing.
-use Rattle.std.proofs.Common.{◌≡◌, ℕ, suc, ◌+◌, ◌≤◌, Bool, true, false, cond, eqb, List, [], ◌∷◌, ◌++◌, map, Some, None, Ok, Err, Option, Result, sym, refl, ap, ◌∙◌, subst, ap₂, arith}
+use Rattle.std.proofs.Common.{◌≡◌, ℕ, ◌≤◌, Bool, true, false, cond, eqb, List, Some, None, Ok, Option, Result, sym, refl, subst, arith}
 use Rattle.std.specs.List.{slice_get}
 use Rattle.std.proofs.lemmas.Bool.{eqb-true}
 use Rattle.fault.specs.declared.Code.TheVariants as code
 use Rattle.fault.specs.declared.Fault.{Fault}
 use Rattle.units.specs.declared.values.RequestType.{RequestType}
 use Rattle.information.specs.declared.values.AnswerGroup.{AnswerGroup}
-use Rattle.message.specs.Numbered.{Message, read_answer}
-use Rattle.usage.specs.Slots.{Slot}
+use Rattle.message.specs.Numbered.{Message}
 use Rattle.usage.specs.Meter.{Meter, refused}
 use Rattle.usage.specs.Answers.{Amount, accepted, after_answer, answer, answer_misfit, answered, discards, ending}
 use Rattle.usage.specs.Reports.{sent_groups}

@@ -1,8 +1,7 @@
 -- Commands: what each group leaves of the slots. Assumes nothing.
-use Rattle.std.proofs.Common.{◌≡◌, ℕ, suc, ◌+◌, ◌≤◌, Bool, true, false, cond, not, ◌&&◌, ◌||◌, List, [], ◌∷◌, ◌++◌, map, length, is_some, Some, None, Ok, Err, Option, Result, sym, refl, ap, ◌∙◌, subst, ap₂, arith}
-use Rattle.std.specs.List.{AllByRecursion as All}
-use Rattle.std.proofs.ByRecursion.{All-weaker}
-use Rattle.std.proofs.lemmas.Bool.{false≢true, and_parts, cases_Bool}
+use Rattle.std.proofs.Common.{◌≡◌, ℕ, suc, ◌+◌, ◌≤◌, Bool, true, false, cond, not, ◌&&◌, List, [], ◌∷◌, ◌++◌, length, is_some, Some, None, Ok, Err, Option, Result, sym, refl, ap, ◌∙◌, subst, arith}
+use Rattle.std.specs.List.{AllByRecursion}
+use Rattle.std.proofs.lemmas.Bool.{false≢true}
 use Rattle.fault.specs.declared.Code.TheVariants as code
 use Rattle.fault.specs.declared.Fault.{Fault}
 use Rattle.fault.specs.Numbers.{call_fault}
@@ -17,14 +16,13 @@ use Rattle.information.specs.declared.values.Order.TheVariants.{Grant, Disable, 
 use Rattle.trip.proofs.Keys.{same_key_lem}
 use Rattle.bank.specs.declared.counts.Counts.{Counts}
 use Rattle.usage.specs.declared.values.Place.{Place}
-use Rattle.usage.specs.declared.values.Sent.{Sent}
-use Rattle.usage.specs.Forms.{clamped, met, same_form}
+use Rattle.usage.specs.Forms.{clamped, same_form}
 use Rattle.usage.specs.Tables.{any, at_first, tally}
-use Rattle.usage.specs.Slots.{Slot, changed, changed_in, closing, going_on, has_key, holds, in_report, is_session, judged, octets_at, place_of, reached_if, same_level, vacant, with_reason}
+use Rattle.usage.specs.Slots.{Slot, changed, changed_in, closing, going_on, has_key, holds, in_report, is_session, judged, octets_at, place_of, same_level, vacant}
 use Rattle.usage.specs.Orders.{counts_session, disabled, given, grant, granted_again, named, new_place, obeyed, obeyed_all, placed, regranted, requested}
 use Rattle.usage.specs.Reports.{sent_at, sent_groups}
-use Rattle.usage.proofs.Inv.{Covered, Low, PlaceOk, SlotAt, SlotOk, SlotsOk, pending_sum}
-use Rattle.usage.proofs.Each.{Each, Quiet, Same, each_keyed, same_by_quiet, same_itself, same_then}
+use Rattle.usage.proofs.Inv.{Low, PlaceOk, SlotAt, SlotOk, SlotsOk, pending_sum}
+use Rattle.usage.proofs.Each.{Quiet, Same, each_keyed, same_by_quiet, same_itself, same_then}
 use Rattle.usage.proofs.Judging.{clamped_low, judged_ok, none_covered, same_covered}
 use Rattle.usage.proofs.Orders.{Alike, all_quiet, disabled_ok, quiet_place, requested_ok, same_first, same_map}
 
@@ -84,7 +82,7 @@ module _ (k : Key) (l : Level) (u : Units) where
       go (Some p) ih = ap (◌++◌ (sent_at (Some p))) ih
 
   module _ (ceiling : ℕ) where
-    gets_pending : (j : Key) (ss : List Slot) → All (SlotOk ceiling) ss → pending_sum j (gets ss) ≡ pending_sum j ss
+    gets_pending : (j : Key) (ss : List Slot) → AllByRecursion (SlotOk ceiling) ss → pending_sum j (gets ss) ≡ pending_sum j ss
     gets_pending j [] h = refl
     gets_pending j (s ∷ ss) h = go s.place h.0 (gets_pending j ss h.1)
       where
@@ -96,11 +94,11 @@ module _ (k : Key) (l : Level) (u : Units) where
         go None ok ih = ap (λ n. n + pending_sum j ss) (nothing_there (has_key j (settled k l u s.counts)) (octets_at s) ok)
         go (Some p) ok ih = ap (λ n. cond (has_key j p) (octets_at s) 0 + n) ih
 
-    gets_ok : Low ceiling u → (ss : List Slot) → All (SlotOk ceiling) ss → All (SlotOk ceiling) (gets ss)
+    gets_ok : Low ceiling u → (ss : List Slot) → AllByRecursion (SlotOk ceiling) ss → AllByRecursion (SlotOk ceiling) (gets ss)
     gets_ok low [] h = tt
     gets_ok low (s ∷ ss) h = go s.place refl h.0 (gets_ok low ss h.1)
       where
-        go : (o : Option Place) → s.place ≡ o → SlotAt ceiling o s.counts → All (SlotOk ceiling) (gets ss) → All (SlotOk ceiling) (gets (record { place = o; counts = s.counts } ∷ ss))
+        go : (o : Option Place) → s.place ≡ o → SlotAt ceiling o s.counts → AllByRecursion (SlotOk ceiling) (gets ss) → AllByRecursion (SlotOk ceiling) (gets (record { place = o; counts = s.counts } ∷ ss))
         go None is ok ih = (judged_ok ceiling (new_place k l u) s.counts (none_covered u s.counts ok) low (λ x e n. absurd (false≢true (ap is_some e))), h.1)
         go (Some p) is ok ih = (ok, ih)
 

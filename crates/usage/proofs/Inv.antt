@@ -1,6 +1,6 @@
 -- What each call keeps true of both ends and the link. Assumes nothing.
-use Rattle.std.proofs.Common.{◌≡◌, ℕ, suc, ◌+◌, ◌≤◌, Bool, true, cond, ◌||◌, List, [], ◌∷◌, length, take, Some, None, Ok, Option}
-use Rattle.std.specs.List.{slice_get, AllByRecursion as All}
+use Rattle.std.proofs.Common.{◌≡◌, ℕ, suc, ◌+◌, ◌≤◌, true, cond, ◌||◌, List, [], ◌∷◌, length, take, Some, None, Ok, Option}
+use Rattle.std.specs.List.{slice_get, AllByRecursion}
 use Rattle.key.specs.declared.key.Key.{Key}
 use Rattle.units.specs.declared.values.RequestType.{RequestType}
 use Rattle.units.specs.declared.values.Units.{Units}
@@ -59,7 +59,7 @@ SlotOk ceiling s = SlotAt ceiling s.place s.counts
 
 pub record SlotsOk (ceiling : ℕ) (ss : List Slot) : Type 0 where
   pub wide : length ss ≡ 16
-  pub each : All (SlotOk ceiling) ss
+  pub each : AllByRecursion (SlotOk ceiling) ss
   -- no two places have one key
   pub apart : (k : Key) → tally (holds (has_key k)) ss ≤ 1
 
@@ -83,10 +83,10 @@ pub record Numbered (n : ℕ) (r : Message ReportGroup) : Type 0 where
 
 pub record LinkOk (made : List (Message ReportGroup)) (l : Ledger) (reports replies : List (List ℕ)) : Type 0 where
   pub numbers : (n : ℕ) (r : Message ReportGroup) → slice_get made n ≡ Some r → Numbered n r
-  pub reported : All (Reported made) reports
+  pub reported : AllByRecursion (Reported made) reports
   pub answers : ℕ → List ℕ
   pub current : answer_octets (fixed_answer l) ≡ answers l.last
-  pub replied : All (Replied answers l.last) replies
+  pub replied : AllByRecursion (Replied answers l.last) replies
 
 -- THE UNANSWERED REPORT
 
@@ -111,7 +111,7 @@ abbrev pub Deducted : List (Message ReportGroup) → ℕ → Account → Type 0
 Deducted made last a = a.deducted ≡ reported a.key (take last made)
 
 pub record LedgerOk (made : List (Message ReportGroup)) (last : ℕ) (xs : List Account) (fixed : List AnswerGroup) : Type 0 where
-  pub each : All (Deducted made last) xs
+  pub each : AllByRecursion (Deducted made last) xs
   pub few : length fixed ≤ 16
 
 pub record Inv (ceiling : ℕ) (w : World) : Type 0 where

@@ -1,5 +1,5 @@
 -- A place whose thresholds or reason change, and one that is judged by its counts. Assumes nothing.
-use Rattle.std.proofs.Common.{◌≡◌, ℕ, ◌+◌, ◌-◌, ◌≤◌, min, Bool, true, false, cond, not, ◌&&◌, ◌||◌, is_some, Some, None, Option, sym, refl, ap, ◌∙◌, subst, ap₂, arith, rules}
+use Rattle.std.proofs.Common.{◌≡◌, ℕ, ◌+◌, ◌≤◌, Bool, true, false, cond, ◌||◌, is_some, Some, None, Option, sym, refl, ap, ◌∙◌, arith}
 use Rattle.std.proofs.lemmas.Bool.{false≢true, or_right}
 use Rattle.units.specs.declared.values.Units.{Units}
 use Rattle.units.specs.declared.values.Units.TheVariants.{Total, Uplink, Downlink, Both}
@@ -9,7 +9,7 @@ use Rattle.usage.specs.declared.values.Reason.{Reason}
 use Rattle.usage.specs.declared.values.Reason.TheVariants as reason
 use Rattle.usage.specs.declared.values.Sent.{Sent}
 use Rattle.usage.specs.Forms.{clamped, met, same_form}
-use Rattle.usage.specs.Slots.{closing, counts, due, has_reason, in_report, judged, reached_if, with_reason}
+use Rattle.usage.specs.Slots.{closing, due, has_reason, in_report, judged, reached_if, with_reason}
 use Rattle.usage.proofs.Inv.{Covered, Low, Noted, PlaceOk}
 
 -- FORMS

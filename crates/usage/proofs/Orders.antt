@@ -1,33 +1,24 @@
 -- Calls that count and report nothing: install, remove, command, terminate. Assumes nothing.
-use Rattle.std.proofs.Common.{◌≡◌, ℕ, suc, ◌+◌, ◌≤◌, Bool, true, false, cond, not, ◌&&◌, ◌||◌, List, [], ◌∷◌, ◌++◌, map, length, is_some, Some, None, Ok, Err, Option, Result, sym, refl, ap, ◌∙◌, subst, ap₂, arith, rules}
-use Rattle.std.specs.List.{AllByRecursion as All}
+use Rattle.std.proofs.Common.{◌≡◌, ℕ, Bool, true, false, cond, not, ◌&&◌, List, [], ◌∷◌, map, Some, None, Option, sym, refl, ap, ◌∙◌}
+use Rattle.std.specs.List.{AllByRecursion}
 use Rattle.std.proofs.ByRecursion.{All-weaker}
-use Rattle.std.proofs.lemmas.Bool.{false≢true, and_parts, not-true}
-use Rattle.fault.specs.declared.Fault.{Fault}
+use Rattle.std.proofs.lemmas.Bool.{false≢true}
 use Rattle.key.specs.declared.key.Key.{Key}
-use Rattle.key.specs.Keys.{same_key}
-use Rattle.units.specs.declared.values.Level.{Level}
-use Rattle.units.specs.declared.values.Units.{Units}
-use Rattle.information.specs.declared.values.CommandGroup.{CommandGroup}
-use Rattle.information.specs.declared.values.Order.{Order}
-use Rattle.information.specs.declared.values.Order.TheVariants.{Grant, Disable, Request}
-use Rattle.trip.proofs.Keys.{same_key_lem}
 use Rattle.bank.specs.declared.counts.Counts.{Counts}
 use Rattle.usage.specs.declared.values.Place.{Place}
 use Rattle.usage.specs.declared.values.Reason.{Reason}
 use Rattle.usage.specs.declared.values.Reason.TheVariants as reason
 use Rattle.usage.specs.declared.values.Rule.{Rule}
 use Rattle.usage.specs.declared.values.Sent.{Sent}
-use Rattle.usage.specs.Forms.{clamped, same_form}
-use Rattle.usage.specs.Tables.{any, at_first, free, tally}
-use Rattle.usage.specs.Slots.{Slot, changed, changed_in, closing, counts, going_on, has_key, has_reason, holds, in_report, is_session, judged, place_of, same_level, vacant, with_reason}
+use Rattle.usage.specs.Tables.{any, at_first}
+use Rattle.usage.specs.Slots.{Slot, changed, changed_in, closing, counts, has_key, has_reason, holds, is_session, with_reason}
 use Rattle.usage.specs.Rules.{after_rule, carries, unruled}
-use Rattle.usage.specs.Orders.{counts_session, disabled, given, grant, granted_again, named, new_place, obeyed, obeyed_all, regranted, requested, requested_if}
-use Rattle.usage.specs.Reports.{group_sent, sent_at, sent_groups}
+use Rattle.usage.specs.Orders.{disabled, requested, requested_if}
+use Rattle.usage.specs.Reports.{group_sent, sent_at}
 use Rattle.usage.specs.Traffic.{over}
-use Rattle.usage.proofs.Inv.{Covered, Low, Noted, PlaceOk, SlotAt, SlotOk, SlotsOk, pending_sum}
-use Rattle.usage.proofs.Each.{Each, Quiet, Same, each_first, each_keyed, each_map, key_at, same_by_quiet, same_itself, same_then}
-use Rattle.usage.proofs.Judging.{clamped_low, judged_ok, none_covered, reasoned, same_covered}
+use Rattle.usage.proofs.Inv.{PlaceOk, SlotAt, SlotOk, SlotsOk}
+use Rattle.usage.proofs.Each.{Quiet, Same, each_first, each_map, key_at, same_by_quiet, same_itself}
+use Rattle.usage.proofs.Judging.{reasoned}
 
 -- ONE PLACE
 
@@ -65,7 +56,7 @@ module _ (ceiling : ℕ) where
       go None is h = record { ok = h; key = sym (ap (λ o. key_at (record { place = o; counts = s.counts })) is); octets = refl; sent = sym (ap sent_at is) }
       go (Some p) is h = quiet_place s p (f p) is (keeps p s.counts h) (alike p)
 
-  pub all_quiet : (ss : List Slot) → All (SlotOk ceiling) ss → All (λ s. Quiet ceiling s s) ss
+  pub all_quiet : (ss : List Slot) → AllByRecursion (SlotOk ceiling) ss → AllByRecursion (λ s. Quiet ceiling s s) ss
   all_quiet ss h = All-weaker (SlotOk ceiling) (λ s. Quiet ceiling s s) quiet_itself ss h
 
   module _ (f : Place → Place) (keeps : (p : Place) (c : Counts) → PlaceOk ceiling p c → PlaceOk ceiling (f p) c) (alike : (p : Place) → Alike p (f p)) (ss : List Slot) (ok : SlotsOk ceiling ss) where

@@ -1,13 +1,12 @@
 -- Traffic keeps what holds. Assumes nothing.
-use Rattle.std.proofs.Common.{◌≡◌, ℕ, ◌+◌, ◌≤◌, Bool, true, false, cond, not, List, [], ◌∷◌, ◌++◌, map, Some, None, Ok, Err, Option, Result, sym, refl, ap, ◌∙◌, subst, ap₂, arith}
+use Rattle.std.proofs.Common.{◌≡◌, ℕ, Bool, true, false, cond, not, map, Some, None, Ok, Option, Result, sym, refl, ap, subst, arith}
 use Rattle.fault.specs.declared.Code.TheVariants as code
 use Rattle.fault.specs.declared.Fault.{Fault}
 use Rattle.usage.specs.declared.values.Rule.{Rule}
 use Rattle.usage.specs.Tables.{any, gathered, tally}
-use Rattle.usage.specs.Slots.{Slot, holds}
+use Rattle.usage.specs.Slots.{holds}
 use Rattle.usage.specs.Meter.{Meter, refused, with_slots}
 use Rattle.usage.specs.Rules.{rule_of}
-use Rattle.usage.specs.Reports.{sent_groups}
 use Rattle.usage.specs.Traffic.{carried, overflows, packet_fits, raised_at, takes, traffic}
 use Rattle.usage.specs.Runs.{World, amount_at, amounts, passing}
 use Rattle.usage.specs.Totals.{under}

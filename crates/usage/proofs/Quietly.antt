@@ -1,5 +1,5 @@
 -- Install, remove, command and terminate keep what holds. Assumes nothing.
-use Rattle.std.proofs.Common.{◌≡◌, ℕ, ◌+◌, ◌≤◌, Bool, true, false, cond, not, ◌&&◌, List, [], ◌∷◌, ◌++◌, map, is_some, Some, None, Ok, Err, Option, Result, sym, refl, ap, ◌∙◌, subst, ap₂, arith}
+use Rattle.std.proofs.Common.{◌≡◌, ℕ, ◌≤◌, Bool, true, false, cond, not, ◌&&◌, List, map, is_some, Some, None, Ok, Err, Option, Result, sym, refl, ◌∙◌, subst, arith}
 use Rattle.fault.specs.declared.Code.TheVariants as code
 use Rattle.fault.specs.declared.Fault.{Fault}
 use Rattle.information.specs.declared.values.CommandGroup.{CommandGroup}
@@ -7,8 +7,8 @@ use Rattle.message.specs.Commands.{read_command}
 use Rattle.usage.specs.declared.values.Rule.{Rule}
 use Rattle.usage.specs.Tables.{any, at_first, free}
 use Rattle.usage.specs.Slots.{Slot, changed}
-use Rattle.usage.specs.Meter.{Meter, refused, with_slots}
-use Rattle.usage.specs.Rules.{after_rule, install, is_rule, key_fits, key_given, remove, removing, rule_fits, rule_of, with_rules}
+use Rattle.usage.specs.Meter.{Meter, refused}
+use Rattle.usage.specs.Rules.{install, is_rule, key_fits, key_given, remove, removing, rule_fits, rule_of, with_rules}
 use Rattle.usage.specs.Orders.{after_orders, command, commanded, obeyed_all}
 use Rattle.usage.specs.Reports.{sent_groups}
 use Rattle.usage.specs.Traffic.{over, terminate}

@@ -1,12 +1,11 @@
 -- Reports: what they take out, under each key. Assumes nothing.
-use Rattle.std.proofs.Common.{◌≡◌, ℕ, suc, ◌+◌, ◌≤◌, Bool, true, false, cond, not, ◌&&◌, ◌||◌, ◌⊎◌, List, [], ◌∷◌, ◌++◌, map, length, is_some, Some, None, Option, sym, refl, ap, ◌∙◌, subst, ap₂, inl, inr, arith, length-append}
-use Rattle.std.specs.List.{AllByRecursion as All}
+use Rattle.std.proofs.Common.{◌≡◌, ℕ, ◌+◌, ◌≤◌, Bool, true, false, cond, List, [], ◌∷◌, ◌++◌, map, length, Some, None, Option, sym, refl, ap, ◌∙◌, inl, arith, length-append}
+use Rattle.std.specs.List.{AllByRecursion}
 use Rattle.std.proofs.ByRecursion.{All-weaker}
-use Rattle.std.proofs.lemmas.Bool.{false≢true, or_right}
+use Rattle.std.proofs.lemmas.Bool.{or_right}
 use Rattle.key.specs.declared.key.Key.{Key}
 use Rattle.units.specs.declared.values.Units.{Units}
 use Rattle.units.specs.declared.values.Units.TheVariants.{Total, Uplink, Downlink, Both}
-use Rattle.information.specs.declared.values.ReportGroup.{ReportGroup}
 use Rattle.bank.specs.declared.counts.Counts.{Counts}
 use Rattle.bank.specs.Meaning.{none as nothing}
 use Rattle.usage.specs.declared.values.Place.{Place}
@@ -14,10 +13,10 @@ use Rattle.usage.specs.declared.values.Reason.{Reason}
 use Rattle.usage.specs.declared.values.Reason.TheVariants as reason
 use Rattle.usage.specs.declared.values.Sent.{Sent}
 use Rattle.usage.specs.Forms.{octets_in, used_in}
-use Rattle.usage.specs.Slots.{Slot, changed_in, closing, due, has_key, holds, in_report, octets_at, passes}
+use Rattle.usage.specs.Slots.{Slot, changed_in, closing, due, has_key, holds, octets_at, passes}
 use Rattle.usage.specs.Reports.{group_sent, reported_at, sent, sent_at, sent_groups, still_closing}
 use Rattle.usage.specs.Takes.{held}
-use Rattle.usage.proofs.Inv.{Covered, Noted, PlaceOk, SlotAt, SlotOk, SlotsOk, pending_sum}
+use Rattle.usage.proofs.Inv.{Covered, PlaceOk, SlotAt, SlotOk, SlotsOk, pending_sum}
 use Rattle.usage.proofs.Each.{Kept, each_map, key_in, slots_ok}
 use Rattle.usage.proofs.Judging.{none_covered}
 use Rattle.usage.proofs.Sums.{held_append}
@@ -74,7 +73,7 @@ module _ (ceiling : ℕ) where
   pub reported_ok : (ss : List Slot) → SlotsOk ceiling ss → SlotsOk ceiling (map reported_at ss)
   reported_ok ss ok = slots_ok ceiling ss _ ok (each_map (Kept ceiling) reported_at ss (All-weaker (SlotOk ceiling) _ reported_kept ss ok.each))
 
-  pub reported_pending : (j : Key) (ss : List Slot) → All (SlotOk ceiling) ss → sent_groups ss ≡ [] → pending_sum j ss ≡ pending_sum j (map reported_at ss) + held j (sent_groups (map reported_at ss))
+  pub reported_pending : (j : Key) (ss : List Slot) → AllByRecursion (SlotOk ceiling) ss → sent_groups ss ≡ [] → pending_sum j ss ≡ pending_sum j (map reported_at ss) + held j (sent_groups (map reported_at ss))
   reported_pending j [] h none = omega arith
   reported_pending j (s ∷ ss) h none =
       let parts = append_none (sent_at s.place) (sent_groups ss) none in

@@ -1,12 +1,11 @@
 -- What is at its threshold is noticed, and the ceiling stops no packet before. Assumes nothing.
-use Rattle.std.proofs.Common.{◌≡◌, ℕ, ◌+◌, ◌<◌, ◌≤◌, Bool, true, false, cond, not, ◌&&◌, ◌||◌, eqb, ltb, leb, ◌⊎◌, List, [], ◌∷◌, map, is_some, Some, None, Ok, Err, Option, Result, sym, refl, ap, ◌∙◌, subst, ap₂, inl, inr, arith}
-use Rattle.std.specs.List.{AllByRecursion as All}
+use Rattle.std.proofs.Common.{◌≡◌, ℕ, ◌+◌, ◌<◌, ◌≤◌, Bool, true, false, cond, not, ◌&&◌, ◌||◌, eqb, ltb, leb, List, [], ◌∷◌, map, Some, None, Ok, Err, Option, Result, sym, refl, ap, subst, arith}
+use Rattle.std.specs.List.{AllByRecursion}
 use Rattle.std.proofs.ByRecursion.{All-weaker}
 use Rattle.std.proofs.lemmas.Bool.{and_parts, eqb-true, false≢true, le-leb, leb-true, ltb-true, or_left, or_right}
 use Rattle.fault.specs.declared.Code.TheVariants as code
 use Rattle.fault.specs.declared.Fault.{Fault}
 use Rattle.fault.specs.Numbers.{call_fault, number_of}
-use Rattle.key.specs.declared.key.Key.{Key}
 use Rattle.units.specs.declared.values.Units.{Units}
 use Rattle.units.specs.declared.values.Units.TheVariants.{Total, Uplink, Downlink, Both}
 use Rattle.bank.specs.declared.counts.Counts.{Counts}
@@ -20,7 +19,7 @@ use Rattle.usage.specs.Meter.{Meter, refused, with_slots}
 use Rattle.usage.specs.Rules.{rule_fits, rule_of}
 use Rattle.usage.specs.Traffic.{carried, overflows, packet_fits, raised_at, takes, traffic}
 use Rattle.usage.specs.Balance.{Noticed, reached_by}
-use Rattle.usage.proofs.Inv.{Low, PlaceOk, SlotAt, SlotOk}
+use Rattle.usage.proofs.Inv.{Low, SlotAt, SlotOk}
 
 pub slot_noticed : (ceiling : ℕ) (s : Slot) → SlotOk ceiling s → Noticed s
 slot_noticed ceiling s ok p is counting full = (subst (λ o. SlotAt ceiling o s.counts) is ok).noticed counting full
@@ -63,7 +62,7 @@ overflow_reached ceiling r d x small s ok e =
         let covered = (and_parts (covers p.thresholds d) _ (and_parts (counts p) _ t).1).0 in
         both_true (takes r.key d p) (met p.thresholds s.counts) t (met_by ceiling d p.thresholds s.counts covered h.low over)
 
-any_by : (p q : Slot → Bool) (ss : List Slot) → All (λ s. p s ≡ true → q s ≡ true) ss → any p ss ≡ true → any q ss ≡ true
+any_by : (p q : Slot → Bool) (ss : List Slot) → AllByRecursion (λ s. p s ≡ true → q s ≡ true) ss → any p ss ≡ true → any q ss ≡ true
 any_by p q [] h e = absurd (false≢true e)
 any_by p q (s ∷ ss) h e = go (p s) refl e (λ f. any_by p q ss h.1 f)
   where
@@ -75,7 +74,7 @@ abbrev code_in : Result ℕ Fault → ℕ
 code_in (Ok n) = 0
 code_in (Err f) = number_of f.code
 
-module _ (ceiling : ℕ) (m : Meter) (ok : All (SlotOk ceiling) m.slots) (n d x : ℕ) where
+module _ (ceiling : ℕ) (m : Meter) (ok : AllByRecursion (SlotOk ceiling) m.slots) (n d x : ℕ) where
   abbrev Reached : Meter × Result ℕ Fault → Type 0
   Reached r = r.1 ≡ Err (call_fault code.Ceiling 0) → any (reached_by (rule_of n m.rules) d) m.slots ≡ true
 

@@ -1,6 +1,6 @@
 -- Every run keeps what holds, and so the balance. Assumes nothing.
-use Rattle.std.proofs.Common.{◌≡◌, ℕ, zero, suc, ◌+◌, ◌≤◌, Bool, true, false, cond, not, ltb, List, [], ◌∷◌, ◌++◌, length, replicate, is_some, Some, None, Ok, Err, Result, sym, refl, ap, ◌∙◌, subst, ap₂, arith}
-use Rattle.std.specs.List.{slice_get, AllByRecursion as All}
+use Rattle.std.proofs.Common.{◌≡◌, ℕ, zero, suc, ◌≤◌, Bool, true, false, cond, not, ltb, List, [], ◌∷◌, ◌++◌, length, replicate, is_some, Ok, Err, Result, refl, ap, subst, arith}
+use Rattle.std.specs.List.{AllByRecursion}
 use Rattle.std.proofs.ByRecursion.{All-push, All-weaker}
 use Rattle.std.proofs.lemmas.Bool.{false≢true}
 use Rattle.fault.specs.declared.Code.TheVariants as code
@@ -8,12 +8,10 @@ use Rattle.fault.specs.declared.Fault.{Fault}
 use Rattle.fault.specs.Numbers.{call_fault}
 use Rattle.group.specs.Walk.{then}
 use Rattle.key.specs.declared.key.Key.{Key}
-use Rattle.information.specs.declared.values.ReportGroup.{ReportGroup}
-use Rattle.message.specs.Numbered.{Message}
 use Rattle.wire.specs.Octets.{answer_octets}
 use Rattle.usage.specs.declared.values.Account.{Account}
 use Rattle.usage.specs.Tables.{any, tally}
-use Rattle.usage.specs.Slots.{Slot, empty, has_key, holds}
+use Rattle.usage.specs.Slots.{empty, has_key, holds}
 use Rattle.usage.specs.Takes.{fixed_answer}
 use Rattle.usage.specs.Ledger.{Row, new_ledger, of, opened, row_added, row_fits, rows_added}
 use Rattle.usage.specs.Runs.{Call, World, run, start, step}
@@ -31,10 +29,10 @@ use Rattle.usage.proofs.Totals.{again, agreed, close, each_once, remains, total}
 -- NEWLY MADE
 
 abbrev Fresh : Result (List Account) Fault → Type 0
-Fresh (Ok xs) = All (λ a. a.deducted ≡ 0) xs
+Fresh (Ok xs) = AllByRecursion (λ a. a.deducted ≡ 0) xs
 Fresh (Err f) = Unit {0}
 
-row_fresh : (xs : List Account) (r : Row) → All (λ a. a.deducted ≡ 0) xs → Fresh (row_added xs r)
+row_fresh : (xs : List Account) (r : Row) → AllByRecursion (λ a. a.deducted ≡ 0) xs → Fresh (row_added xs r)
 row_fresh xs r h = go (not (row_fits r)) (any (of (opened r).key) xs) (ltb (length xs) 16)
   where
     go : (a b c : Bool) → Fresh (cond a (Err (call_fault code.Range 0)) (cond b (Err (call_fault code.RepeatedKey 0)) (cond c (Ok (xs ++ opened r ∷ [])) (Err (call_fault code.TooMany 0)))))
@@ -43,15 +41,15 @@ row_fresh xs r h = go (not (row_fits r)) (any (of (opened r).key) xs) (ltb (leng
     go false false true = All-push (λ a. a.deducted ≡ 0) xs (opened r) h refl
     go false false false = tt
 
-rows_fresh : (rs : List Row) (xs : List Account) → All (λ a. a.deducted ≡ 0) xs → Fresh (rows_added xs rs)
+rows_fresh : (rs : List Row) (xs : List Account) → AllByRecursion (λ a. a.deducted ≡ 0) xs → Fresh (rows_added xs rs)
 rows_fresh [] xs h = h
 rows_fresh (r ∷ rs) xs h = go (row_added xs r) (row_fresh xs r h) (λ ys more. rows_fresh rs ys more)
   where
-    go : (o : Result (List Account) Fault) → Fresh o → ((ys : List Account) → All (λ a. a.deducted ≡ 0) ys → Fresh (rows_added ys rs)) → Fresh (then o (λ ys. rows_added ys rs))
+    go : (o : Result (List Account) Fault) → Fresh o → ((ys : List Account) → AllByRecursion (λ a. a.deducted ≡ 0) ys → Fresh (rows_added ys rs)) → Fresh (then o (λ ys. rows_added ys rs))
     go (Ok ys) f ih = ih ys f
     go (Err e) f ih = tt
 
-all_empty : (ceiling n : ℕ) → All (SlotOk ceiling) (replicate n empty)
+all_empty : (ceiling n : ℕ) → AllByRecursion (SlotOk ceiling) (replicate n empty)
 all_empty ceiling zero = tt
 all_empty ceiling (suc n) = (refl, all_empty ceiling n)
 
@@ -63,7 +61,7 @@ nothing_yet : (k : Key) (n : ℕ) → pending_sum k (replicate n empty) ≡ 0
 nothing_yet k zero = refl
 nothing_yet k (suc n) = omega (arith, nothing_yet k n)
 
-starts : (ceiling : ℕ) (xs : List Account) → All (λ a. a.deducted ≡ 0) xs → Inv ceiling (start xs)
+starts : (ceiling : ℕ) (xs : List Account) → AllByRecursion (λ a. a.deducted ≡ 0) xs → Inv ceiling (start xs)
 starts ceiling xs fresh =
     record {
       slots = record { wide = refl; each = all_empty ceiling 16; apart = λ k. omega (arith, none_yet k 16) };

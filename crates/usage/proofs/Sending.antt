@@ -1,6 +1,6 @@
 -- Report keeps what holds. Assumes nothing.
-use Rattle.std.proofs.Common.{◌≡◌, ℕ, suc, ◌+◌, ◌≤◌, Bool, true, false, cond, not, ltb, leb, ◌⊎◌, List, [], ◌∷◌, ◌++◌, map, length, take, is_some, Some, None, Ok, Err, Option, Result, sym, refl, ap, ◌∙◌, subst, ap₂, inl, inr, arith, length-append}
-use Rattle.std.specs.List.{slice_get, AllByRecursion as All}
+use Rattle.std.proofs.Common.{◌≡◌, ℕ, ◌+◌, ◌≤◌, Bool, true, false, cond, leb, ◌⊎◌, List, [], ◌∷◌, ◌++◌, map, length, Some, None, Ok, Err, Option, Result, sym, refl, ap, ◌∙◌, subst, inl, inr, arith, length-append}
+use Rattle.std.specs.List.{slice_get}
 use Rattle.std.proofs.ByRecursion.{All-push, All-weaker}
 use Rattle.std.proofs.lemmas.Bool.{false≢true, lt-ltb, le-ltb}
 use Rattle.fault.specs.declared.Code.TheVariants as code
@@ -19,11 +19,11 @@ use Rattle.usage.specs.Meter.{Meter, refused}
 use Rattle.usage.specs.Written.{writing}
 use Rattle.usage.specs.Reports.{after_report, if_written, next_report, nothing_due, report, report_written, reported_at, sent_groups, sent_report, type_now}
 use Rattle.usage.specs.Reports as reports
-use Rattle.usage.specs.Runs.{World, made_by, put, reporting}
+use Rattle.usage.specs.Runs.{World, made_by, reporting}
 use Rattle.usage.specs.Totals.{reported}
 use Rattle.usage.specs.Balance.{Reported}
-use Rattle.usage.proofs.Inv.{Answered, Deducted, Inv, LinkOk, Numbered, Replied, Unanswered, Waits}
-use Rattle.usage.proofs.Archive.{nth_end, nth_push, nth_pushed, nth_within, take_push}
+use Rattle.usage.proofs.Inv.{Answered, Deducted, Inv, Numbered, Unanswered, Waits}
+use Rattle.usage.proofs.Archive.{nth_end, nth_push, nth_pushed, take_push}
 use Rattle.usage.proofs.Reporting.{few_sent, reported_ok, reported_pending}
 use Rattle.usage.proofs.Sums.{reported_push}
 

@@ -1,29 +1,27 @@
 -- Answers: what they discard, under each key. Assumes nothing.
-use Rattle.std.proofs.Common.{◌≡◌, ℕ, suc, ◌+◌, ◌≤◌, Bool, true, false, cond, not, ◌&&◌, ◌||◌, eqb, ◌⊎◌, List, [], ◌∷◌, ◌++◌, map, is_some, Some, None, Option, sym, refl, ap, ◌∙◌, subst, ap₂, inl, inr, arith}
-use Rattle.std.specs.List.{AllByRecursion as All}
+use Rattle.std.proofs.Common.{◌≡◌, ℕ, ◌+◌, ◌≤◌, Bool, true, false, cond, not, ◌&&◌, ◌||◌, eqb, List, [], ◌∷◌, ◌++◌, map, is_some, Some, None, Option, sym, refl, ap, ◌∙◌, ap₂, inl, inr, arith}
+use Rattle.std.specs.List.{AllByRecursion}
 use Rattle.std.specs.Str.{bytes_eq}
 use Rattle.std.proofs.ByRecursion.{All-weaker}
 use Rattle.std.proofs.lemmas.Slice.Eq.{bytes_eq-Decides}
-use Rattle.std.proofs.lemmas.Bool.{and_parts, eq-eqb, false≢true}
+use Rattle.std.proofs.lemmas.Bool.{eq-eqb, false≢true}
 use Rattle.fault.specs.declared.Code.{Code}
 use Rattle.fault.specs.declared.Code.TheVariants as code
-use Rattle.fault.specs.declared.Fault.{Fault}
 use Rattle.key.specs.declared.key.Key.{Key}
 use Rattle.key.specs.Keys.{same_key}
 use Rattle.units.specs.declared.values.Units.{Units}
 use Rattle.information.specs.declared.values.AnswerGroup.{AnswerGroup}
 use Rattle.trip.proofs.Keys.{same_key_lem}
-use Rattle.bank.specs.declared.counts.Counts.{Counts}
 use Rattle.usage.specs.declared.values.Place.{Place}
 use Rattle.usage.specs.declared.values.Sent.{Sent}
 use Rattle.usage.specs.Forms.{clamped, same_form}
-use Rattle.usage.specs.Tables.{gathered, tally}
-use Rattle.usage.specs.Slots.{Slot, closing, counts, empty, going_on, has_key, holds, judged, octets_at, passes, place_of, same_level}
-use Rattle.usage.specs.Answers.{Amount, answer_misfit, continued, discarded, discarded_at, discards, form_fits, kept, lost, misfit, misfit_at, or_next, settled, settled_at, terms_for}
+use Rattle.usage.specs.Tables.{tally}
+use Rattle.usage.specs.Slots.{Slot, closing, going_on, has_key, holds, octets_at, passes, place_of, same_level}
+use Rattle.usage.specs.Answers.{answer_misfit, continued, discarded, discarded_at, discards, form_fits, kept, lost, misfit, misfit_at, or_next, settled, settled_at, terms_for}
 use Rattle.usage.specs.Reports.{group_sent, sent_at, sent_groups}
 use Rattle.usage.specs.Totals.{under}
-use Rattle.usage.proofs.Inv.{Covered, Low, PlaceOk, SlotAt, SlotOk, SlotsOk, pending_sum}
-use Rattle.usage.proofs.Each.{Each, Kept, each_map, key_at, key_in, slots_ok}
+use Rattle.usage.proofs.Inv.{PlaceOk, SlotAt, SlotOk, SlotsOk, pending_sum}
+use Rattle.usage.proofs.Each.{Kept, each_map, key_in, slots_ok}
 use Rattle.usage.proofs.Judging.{clamped_covered, clamped_low, judged_ok, same_covered}
 use Rattle.usage.proofs.Sums.{under_append}
 
@@ -51,7 +49,7 @@ found_tally k (s ∷ ss) p e = go s.place (λ h. found_tally k ss p h) e
 abbrev pub Found : List Slot → Slot → Type 0
 Found ss s = (p : Place) → s.place ≡ Some p → place_of p.key ss ≡ Some p
 
-pub all_found : (ss : List Slot) → ((k : Key) → tally (holds (has_key k)) ss ≤ 1) → All (Found ss) ss
+pub all_found : (ss : List Slot) → ((k : Key) → tally (holds (has_key k)) ss ≤ 1) → AllByRecursion (Found ss) ss
 all_found [] apart = tt
 all_found (s ∷ ss) apart = (first, All-weaker (Found ss) (Found (s ∷ ss)) later ss (all_found ss (λ k. omega (arith, apart k))))
   where
@@ -138,7 +136,7 @@ module _ (ceiling : ℕ) (enough : 65535 ≤ ceiling) (gs : List AnswerGroup) wh
     pub settled_ok : SlotsOk ceiling ss → SlotsOk ceiling (map (λ s. after s s.place) ss)
     settled_ok ok = slots_ok ceiling ss _ ok (each_map (Kept ceiling) (λ s. after s s.place) ss (both ss ok.each (all_found ss ok.apart)))
       where
-        both : (ts : List Slot) → All (SlotOk ceiling) ts → All (Found ss) ts → All (λ s. Kept ceiling s (after s s.place)) ts
+        both : (ts : List Slot) → AllByRecursion (SlotOk ceiling) ts → AllByRecursion (Found ss) ts → AllByRecursion (λ s. Kept ceiling s (after s s.place)) ts
         both [] h f = tt
         both (t ∷ ts) h f = (slot_kept t h.0 f.0, both ts h.1 f.1)
 
@@ -165,7 +163,7 @@ module _ (ceiling : ℕ) (enough : 65535 ≤ ceiling) (gs : List AnswerGroup) wh
       go (Some p) is = in_report_lem p is p.sent refl
 
   -- what was there is discarded, or still there
-  pub settled_pending : (j : Key) (ss : List Slot) → All (SlotOk ceiling) ss → pending_sum j ss ≡ pending_sum j (map (λ s. after s s.place) ss) + under j (discards gs ss)
+  pub settled_pending : (j : Key) (ss : List Slot) → AllByRecursion (SlotOk ceiling) ss → pending_sum j ss ≡ pending_sum j (map (λ s. after s s.place) ss) + under j (discards gs ss)
   settled_pending j [] h = omega arith
   settled_pending j (s ∷ ss) h =
       omega (arith, go s.place refl h.0, settled_pending j ss h.1, under_append j (discarded_at gs s s.place) (discards gs ss))

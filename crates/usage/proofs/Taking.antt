@@ -1,6 +1,6 @@
 -- Take, reply and give up keep what holds. Assumes nothing.
-use Rattle.std.proofs.Common.{◌≡◌, ℕ, suc, ◌+◌, ◌<◌, ◌≤◌, Bool, true, false, cond, eqb, ltb, List, [], ◌∷◌, ◌++◌, map, length, take, Some, None, Ok, Err, Option, Result, sym, refl, ap, ◌∙◌, subst, ap₂, add-one, arith}
-use Rattle.std.specs.List.{slice_get, AllByRecursion as All}
+use Rattle.std.proofs.Common.{◌≡◌, ℕ, suc, ◌+◌, Bool, true, false, cond, eqb, ltb, List, [], ◌∷◌, map, length, take, Some, None, Ok, Err, Option, Result, sym, refl, ap, ◌∙◌, subst, add-one, arith}
+use Rattle.std.specs.List.{slice_get}
 use Rattle.std.proofs.ByRecursion.{All-map, All-push, All-weaker}
 use Rattle.std.proofs.lemmas.Bool.{eq-eqb, eqb-false, ltb-false, ne_eqb}
 use Rattle.fault.specs.declared.Code.TheVariants as code
@@ -8,9 +8,8 @@ use Rattle.fault.specs.declared.Fault.{Fault}
 use Rattle.fault.specs.Numbers.{call_fault}
 use Rattle.key.specs.declared.key.Key.{Key}
 use Rattle.units.specs.declared.values.RequestType.{RequestType}
-use Rattle.information.specs.declared.values.AnswerGroup.{AnswerGroup}
 use Rattle.information.specs.declared.values.ReportGroup.{ReportGroup}
-use Rattle.message.specs.Numbered.{Message, read_answer, read_report}
+use Rattle.message.specs.Numbered.{Message, read_answer}
 use Rattle.wire.specs.Octets.{answer_data, answer_octets, group_avp, report_data}
 use Rattle.wire.specs.Sound.{answer_fault}
 use Rattle.trip.specs.Back.{answer_at, located, placed, report_at}
@@ -23,10 +22,10 @@ use Rattle.usage.specs.Reports.{sent_groups}
 use Rattle.usage.specs.Takes.{after_take, charged, fixed_answer, held, replied, reply}
 use Rattle.usage.specs.Takes as ledger
 use Rattle.usage.specs.Written.{writing}
-use Rattle.usage.specs.Runs.{World, arrived, forgiving, paid, put, repaying, replying, taking}
+use Rattle.usage.specs.Runs.{World, arrived, forgiving, repaying, replying, taking}
 use Rattle.usage.specs.Totals.{reported}
 use Rattle.usage.specs.Balance.{Reported}
-use Rattle.usage.proofs.Inv.{Answered, Deducted, Inv, Replied, Unanswered, Waits}
+use Rattle.usage.proofs.Inv.{Deducted, Inv, Replied, Waits}
 use Rattle.usage.proofs.Archive.{all_nth, nth_within}
 use Rattle.usage.proofs.Sending.{writing_is}
 use Rattle.usage.proofs.Sums.{reported_next}

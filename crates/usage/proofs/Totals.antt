@@ -1,6 +1,6 @@
 -- The totals, from what every call keeps. Assumes nothing.
-use Rattle.std.proofs.Common.{◌≡◌, ℕ, suc, ◌+◌, ◌<◌, ◌≤◌, Bool, true, false, cond, ltb, ◌⊎◌, List, [], ◌∷◌, ◌++◌, map, length, take, pos, ◌-ℤ◌, is_some, Some, None, Ok, Err, Option, Result, sym, refl, ap, ◌∙◌, subst, ap₂, inl, inr, arith}
-use Rattle.std.specs.List.{slice_get, AllByRecursion as All}
+use Rattle.std.proofs.Common.{◌≡◌, ℕ, suc, ◌+◌, ◌<◌, ◌≤◌, Bool, true, false, cond, ◌⊎◌, List, [], ◌∷◌, take, pos, ◌-ℤ◌, is_some, Some, None, Ok, Err, Option, Result, sym, refl, ap, ◌∙◌, subst, inl, inr, arith}
+use Rattle.std.specs.List.{slice_get, AllByRecursion}
 use Rattle.std.proofs.lemmas.List.{take_all}
 use Rattle.std.proofs.lemmas.Bool.{cases_lt, false≢true, le-ltb, lt-ltb}
 use Rattle.key.specs.declared.key.Key.{Key}
@@ -43,7 +43,7 @@ pending_first k (s ∷ ss) few = go (holds (has_key k) s) few (λ h. pending_fir
     go false few ih = omega (arith, ih (omega arith))
 
 -- an account that is found is one of them, and has the key
-account_found : (P : Account → Type 0) (k : Key) (xs : List Account) (a : Account) → All P xs → account_of k xs ≡ Some a → P a × (same_key a.key k ≡ true)
+account_found : (P : Account → Type 0) (k : Key) (xs : List Account) (a : Account) → AllByRecursion P xs → account_of k xs ≡ Some a → P a × (same_key a.key k ≡ true)
 account_found P k [] a h e = absurd (false≢true (ap is_some e))
 account_found P k (x ∷ xs) a h e = go (of k x) refl e (λ f. account_found P k xs a h.1 f)
   where

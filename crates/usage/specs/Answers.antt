@@ -1,5 +1,5 @@
 -- Answers: each ends the unanswered report.
-use Rattle.std.specs.Prelude.{ℕ, ◌+◌, Bool, true, false, cond, not, ◌&&◌, ◌||◌, List, [], ◌∷◌, map, Some, None, Ok, Err, Option, Result, ◌==◌}
+use Rattle.std.specs.Prelude.{ℕ, ◌+◌, Bool, true, false, cond, ◌&&◌, ◌||◌, List, [], ◌∷◌, map, Some, None, Ok, Err, Option, Result, ◌==◌}
 use Rattle.fault.specs.declared.Code.{Code}
 use Rattle.fault.specs.declared.Code.TheVariants as code
 use Rattle.fault.specs.declared.Fault.{Fault}
@@ -126,7 +126,7 @@ abbrev pub answered : ℕ → Meter → Result (Message AnswerGroup) Fault → M
 answered ceiling m (Err f) = (m, Err f)
 answered ceiling m (Ok a) = cond m.ended (refused m code.Terminated) (ending ceiling m a m.unanswered)
 
--- what it discards under each key; the call itself answers `discardedOctets` of it
+-- what it discards under each key; the call itself answers `discarded_octets` of it
 abbrev pub answer : ℕ → Meter → List ℕ → Meter × Result (List Amount) Fault
 answer ceiling m bs = answered ceiling m (read_answer bs)
 

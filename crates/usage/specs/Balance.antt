@@ -1,6 +1,6 @@
 -- The balance: what holds after every run.
-use Rattle.std.specs.Prelude.{◌≡◌, ℕ, ◌+◌, ◌≤◌, Bool, true, false, ◌&&◌, ◌||◌, ◌⊎◌, List, [], ◌∷◌, length, take, pos, ◌-ℤ◌, Some, None, Ok, Err, Option, Result}
-use Rattle.std.specs.List.{slice_get, AllByRecursion as All}
+use Rattle.std.specs.Prelude.{◌≡◌, ℕ, ◌+◌, ◌≤◌, Bool, true, false, ◌&&◌, ◌||◌, ◌⊎◌, List, [], length, take, pos, ◌-ℤ◌, Some, None, Ok, Err, Option, Result}
+use Rattle.std.specs.List.{slice_get, AllByRecursion}
 use Rattle.fault.specs.declared.Code.TheVariants as code
 use Rattle.fault.specs.declared.Fault.{Fault}
 use Rattle.fault.specs.Numbers.{call_fault}
@@ -57,11 +57,11 @@ pub record Balance (ceiling : ℕ) (w : World) : Type 0 where
   -- the ledger's last number is the meter's latest or one less
   pub close : (w.meter.latest ≡ w.ledger.last) ⊎ (w.meter.latest ≡ w.ledger.last + 1)
   -- a key that counts and is at or above its threshold is due, or stands in the unanswered report
-  pub noticed : All Noticed w.meter.slots
+  pub noticed : AllByRecursion Noticed w.meter.slots
   -- the ceiling stops a packet only if a key that it counts for is at or above its threshold
   pub room : (n d x : ℕ) → (traffic ceiling w.meter n d x).1 ≡ Err (call_fault code.Ceiling 0) → any (reached_by (rule_of n w.meter.rules) d) w.meter.slots ≡ true
   -- each report that was written reads back as one that was made; written again, it has the same octets
-  pub written : All (Reported w.made) w.reports
+  pub written : AllByRecursion (Reported w.made) w.reports
   pub again : OneByNumber read_report w.reports
   -- all replies to one report say the same
   pub agreed : OneByNumber read_answer w.replies

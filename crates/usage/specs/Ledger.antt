@@ -1,5 +1,5 @@
 -- The ledger: its accounts, how it is made from rows, what remains, and the next threshold.
-use Rattle.std.specs.Prelude.{ℕ, ◌+◌, ◌-◌, ◌*◌, ◌/◌, min, max, Bool, true, false, cond, not, ◌&&◌, List, [], ◌∷◌, ◌++◌, length, ℤ, pos, ◌-ℤ◌, is_some, Some, None, Ok, Err, Option, Result, nat_le, nat_lt}
+use Rattle.std.specs.Prelude.{ℕ, ◌-◌, ◌*◌, ◌/◌, min, max, Bool, cond, not, ◌&&◌, List, [], ◌∷◌, ◌++◌, length, ℤ, pos, ◌-ℤ◌, Some, None, Ok, Err, Option, Result, nat_le, nat_lt}
 use Rattle.fault.specs.declared.Code.TheVariants as code
 use Rattle.fault.specs.declared.Fault.{Fault}
 use Rattle.fault.specs.Numbers.{call_fault}
@@ -8,7 +8,6 @@ use Rattle.key.specs.declared.key.Key.{Key}
 use Rattle.key.specs.Keys.{blank_key, key_long, key_of, same_key}
 use Rattle.units.specs.declared.values.RequestType.{RequestType}
 use Rattle.units.specs.declared.values.RequestType.TheVariants.{Update, Termination}
-use Rattle.units.specs.declared.values.Units.{Units}
 use Rattle.information.specs.declared.values.AnswerGroup.{AnswerGroup}
 use Rattle.usage.specs.declared.values.Account.{Account}
 use Rattle.usage.specs.declared.values.Plan.{Plan}

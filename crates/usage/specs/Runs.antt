@@ -1,5 +1,5 @@
 -- Runs: every list of the ten calls, on both ends and the link between them.
-use Rattle.std.specs.Prelude.{ℕ, suc, Bool, cond, List, [], ◌∷◌, ◌++◌, take, drop, Some, None, Ok, Err, Option, Result, nat_lt}
+use Rattle.std.specs.Prelude.{ℕ, suc, cond, List, [], ◌∷◌, ◌++◌, take, drop, Some, None, Ok, Err, Option, Result, nat_lt}
 use Rattle.std.specs.List.{slice_get}
 use Rattle.fault.specs.declared.Fault.{Fault}
 use Rattle.key.specs.declared.key.Key.{Key}

@@ -1,5 +1,5 @@
 -- The meter's sixteen slots: the place of a key, if one has it, and what the bank counted there.
-use Rattle.std.specs.Prelude.{ℕ, ◌+◌, Bool, true, false, cond, not, ◌&&◌, eqb, List, map, is_some, Some, None, Option}
+use Rattle.std.specs.Prelude.{ℕ, ◌+◌, Bool, true, false, cond, not, List, map, is_some, Some, None, Option}
 use Rattle.key.specs.declared.key.Key.{Key}
 use Rattle.key.specs.Keys.{same_key}
 use Rattle.units.specs.declared.values.Level.{Level}
@@ -10,7 +10,6 @@ use Rattle.bank.specs.Meaning.{none as nothing}
 use Rattle.usage.specs.declared.values.Place.{Place}
 use Rattle.usage.specs.declared.values.Reason.{Reason}
 use Rattle.usage.specs.declared.values.Reason.TheVariants as reason
-use Rattle.usage.specs.declared.values.Sent.{Sent}
 use Rattle.usage.specs.Forms.{met}
 use Rattle.usage.specs.Tables.{lookup, free}
 

@@ -1,5 +1,5 @@
 -- Traffic and terminate.
-use Rattle.std.specs.Prelude.{ℕ, ◌+◌, Bool, true, false, cond, not, ◌&&◌, List, map, Some, None, Ok, Option, Result, nat_le, nat_lt}
+use Rattle.std.specs.Prelude.{ℕ, ◌+◌, Bool, true, cond, not, ◌&&◌, map, Some, None, Ok, Option, Result, nat_le, nat_lt}
 use Rattle.fault.specs.declared.Code.TheVariants as code
 use Rattle.fault.specs.declared.Fault.{Fault}
 use Rattle.key.specs.declared.key.Key.{Key}

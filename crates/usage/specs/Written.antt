@@ -1,6 +1,5 @@
 -- What a call writes into a lent buffer.
-use Rattle.std.specs.Prelude.{ℕ, Bool, true, false, cond, List, ◌++◌, length, drop, replicate, Some, None, Ok, Err, Option, Result, ◌==◌, nat_le}
-use Rattle.fault.specs.declared.Code.{Code}
+use Rattle.std.specs.Prelude.{ℕ, cond, List, ◌++◌, length, drop, replicate, Some, None, Ok, Err, Option, Result, ◌==◌, nat_le}
 use Rattle.fault.specs.declared.Code.TheVariants.{Short}
 use Rattle.fault.specs.declared.Fault.{Fault}
 use Rattle.fault.specs.Numbers.{call_fault, number_of}

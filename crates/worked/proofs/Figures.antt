@@ -1,6 +1,6 @@
 -- The figures, computed. Assumes nothing.
-use Rattle.std.proofs.Common.{◌≡◌, List, [], ◌∷◌, refl}
-use Rattle.std.specs.List.{AllByRecursion as All}
+use Rattle.std.proofs.Common.{List, [], ◌∷◌, refl}
+use Rattle.std.specs.List.{AllByRecursion}
 use Rattle.bank.specs.Slots as slots
 use Rattle.group.specs.Walk as walk
 use Rattle.information.specs.Command as command
@@ -31,6 +31,6 @@ shown Shares = (refl, refl)
 shown RollingOver = (refl, refl)
 shown RollingFull = rolling_full
 
-pub all_shown : (fs : List Figure) → All Shown fs
+pub all_shown : (fs : List Figure) → AllByRecursion Shown fs
 all_shown [] = tt
 all_shown (f ∷ fs) = (shown f, all_shown fs)

@@ -1,9 +1,8 @@
 -- The figures that the rules give, each as a statement about the definitions. Counts and thresholds are over a bank with the
 -- word bank's ceiling.
-use Rattle.std.specs.Prelude.{◌≡◌, ℕ, ◌+◌, List, [], ◌∷◌, replicate, ℤ, pos, negsuc, Some, None, Ok, Err, codes, Option, Result, slice_index, slice_set}
+use Rattle.std.specs.Prelude.{◌≡◌, ℕ, List, [], ◌∷◌, replicate, negsuc, Some, None, Ok, Err, codes, Option, slice_index, slice_set}
 use Rattle.std.specs.Option.{unwrap_or}
 use Rattle.fault.specs.declared.Code.TheVariants as code
-use Rattle.fault.specs.declared.Fault.{Fault}
 use Rattle.fault.specs.Numbers.{call_fault, message_fault}
 use Rattle.key.specs.declared.key.Key.{Key}
 use Rattle.key.specs.Keys.{blank_key, key_of}
@@ -17,7 +16,6 @@ use Rattle.information.specs.declared.values.Order.TheVariants.{Grant, Request}
 use Rattle.information.specs.declared.values.ReportGroup.{ReportGroup}
 use Rattle.message.specs.Commands.{read_command}
 use Rattle.message.specs.Numbered.{Message}
-use Rattle.bank.specs.declared.counts.Counts.{Counts}
 use Rattle.bank.specs.Calls.{added}
 use Rattle.rolling_bank.specs.Rolling.{advanced, count_at, meant}
 use Rattle.usage.specs.declared.values.Account.{Account}
