@@ -1,5 +1,8 @@
 //! Octets written in hexadecimal, and text in hexadecimal read back. It knows nothing of what the octets mean, nor of
 //! how a line of text is laid out around them.
+
+#![tactic(auto)]
+
 mod digit;
 mod error;
 mod reading;

@@ -1,5 +1,8 @@
 //! A refusal put into words: its code, layer and place, what to mend, and the AVP at that place by its name. What is
 //! wrong with a message is decided elsewhere.
+
+#![tactic(auto)]
+
 mod call;
 mod label;
 mod refusal;

@@ -138,7 +138,7 @@ pub fn push_ordered(text: &mut String, group: &CommandGroup) -> fmt::Result
             text.write("disable ")?;
             push_key(text, &key)
         }
-        Order::Request { key: None } => text.write("request"),
+        Order::Request { key: None } => Ok(text.write("request")?),
         Order::Request { key: Some(key) } => {
             text.write("request ")?;
             push_key(text, &key)

@@ -1,5 +1,8 @@
 //! The text form of messages: a first line with the kind, and a line for each group. It is read line by line and written
 //! whole. Nothing here knows octets; those who read them and write them stand elsewhere.
+
+#![tactic(auto)]
+
 mod groups;
 mod line;
 mod messages;

@@ -27,7 +27,7 @@ fn push_head(text: &mut String, kind: &str, number: u64, request_type: RequestTy
     let word = type_word(request_type);
     text.write(kind)?;
     write!(text, " {number} {word}")?;
-    text.write("\n")
+    Ok(text.write("\n")?)
 }
 
 impl Message {

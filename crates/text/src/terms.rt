@@ -41,7 +41,7 @@ pub(crate) fn push_keyed(text: &mut String, key: &Key, level: Level) -> fmt::Res
 {
     push_key(text, key)?;
     let level = level_word(level);
-    write!(text, " {level}")
+    Ok(write!(text, " {level}")?)
 }
 
 pub(crate) fn push_terms(text: &mut String, key: &Key, level: Level, units: Units) -> fmt::Result

@@ -40,9 +40,9 @@ pub(crate) fn push_units(text: &mut String, units: Units) -> fmt::Result
     ensures { OnOk result (string_bytes text.new ≡ string_bytes text.old ++ units_text units) }
 {
     match units {
-        Units::Total(total) => write!(text, " total {total}"),
-        Units::Uplink(uplink) => write!(text, " uplink {uplink}"),
-        Units::Downlink(downlink) => write!(text, " downlink {downlink}"),
-        Units::Both { uplink, downlink } => write!(text, " both {uplink} {downlink}"),
+        Units::Total(total) => Ok(write!(text, " total {total}")?),
+        Units::Uplink(uplink) => Ok(write!(text, " uplink {uplink}")?),
+        Units::Downlink(downlink) => Ok(write!(text, " downlink {downlink}")?),
+        Units::Both { uplink, downlink } => Ok(write!(text, " both {uplink} {downlink}")?),
     }
 }

@@ -1,5 +1,8 @@
 //! The text form of messages with what it promises: the text of a sound message reads back as that message. The crate
 //! below writes the text; what is added here is the theorem.
+
+#![tactic(auto)]
+
 ghost use Rattle.std.specs.Prelude.{◌≡◌, ◌++◌, string_bytes, OnOk};
 ghost use Rattle.text.specs.Messages.{lines_of, meant, text_of};
 ghost use Rattle.text_trip.specs.Back.{ReadsBack};

@@ -1,19 +1,30 @@
 -- Walks along a line, one character at a time.
-use Rattle.std.proofs.Common.{◌≡◌, ℕ, ◌+◌, ◌<◌, ◌≤◌, Bool, true, false, not, ◌&&◌, eqb, List, [], ◌∷◌, length, get_or, drop, sym, refl, ◌∙◌, arith}
+use Rattle.std.proofs.Common.{◌≡◌, ℕ, ◌+◌, ◌<◌, ◌≤◌, Bool, true, false, not, ◌&&◌, eqb, List, [], ◌∷◌, length, get_or, drop, sym, refl, ◌∙◌, arith, ne_eqb}
 use mathlib.Core.Bool.{beq}
 use Rattle.std.proofs.lemmas.Bool.{false≢true}
+use Rattle.std.specs.Char.{is_ascii_whitespace}
 use Rattle.std.specs.List.{prefix_len}
 use Rattle.std.proofs.lemmas.List.{at_drop_more, at_drop_all}
 use Rattle.std.proofs.lemmas.List.Sums.{prefix_len-drop_yes, prefix_len-drop_no, prefix_len-drop_all}
 use Rattle.group.specs.Shapes.{every}
-use Rattle.words.specs.Lines.{shorn, skipped}
-use Rattle.words.specs.Words.{is_space}
+use Rattle.words.specs.Lines.{blank, shorn, skipped}
+use Rattle.words.specs.Words.{in_word, is_space, word_length}
 
 and_true : (a b : Bool) → a ≡ true → (a && b) ≡ b
 and_true a b e = rw e
 
 and_false : (a b : Bool) → a ≡ false → (a && b) ≡ false
 and_false a b e = rw e
+
+-- a line that is blank as far as it was read
+pub blank_goes : (line : List ℕ) (i : ℕ) (w : Bool) → i < length line → is_ascii_whitespace (get_or line i 0) ≡ true → blank (drop i line) ≡ w → blank (drop (i + 1) line) ≡ w
+blank_goes line i w l e h = sym (at_drop_more blank line i 0 l ∙ and_true _ _ e) ∙ h
+
+pub blank_stops : (line : List ℕ) (i : ℕ) (w : Bool) → i < length line → is_ascii_whitespace (get_or line i 0) ≡ false → blank (drop i line) ≡ w → false ≡ w
+blank_stops line i w l e h = sym (at_drop_more blank line i 0 l ∙ and_false _ _ e) ∙ h
+
+pub blank_ends : (line : List ℕ) (i : ℕ) (w : Bool) → length line ≤ i → blank (drop i line) ≡ w → true ≡ w
+blank_ends line i w l h = sym (at_drop_all blank line i l) ∙ h
 
 -- a test of every character
 module _ (p : ℕ → Bool) (text : List ℕ) (i : ℕ) (w : Bool) where
@@ -53,6 +64,22 @@ run_stops p text i w l e h = omega (arith, prefix_len-drop_no p text i 0 l e)
 
 pub run_ends : (p : ℕ → Bool) (text : List ℕ) (i w : ℕ) → length text ≤ i → i ≤ length text → i + prefix_len p (drop i text) ≡ w → length text ≡ w
 run_ends p text i w l m h = omega (arith, prefix_len-drop_all p text i l)
+
+-- the same of the first word of a line
+space_out : (c : ℕ) → c ≡ 32 → in_word c ≡ false
+space_out c e = rw e
+
+other_in : (c : ℕ) → (c ≡ 32 → ⊥) → in_word c ≡ true
+other_in c ne = rw (ne_eqb c 32 ne)
+
+pub word_goes : (line : List ℕ) (i w : ℕ) → i < length line → (get_or line i 0 ≡ 32 → ⊥) → i + word_length (drop i line) ≡ w → i + 1 + word_length (drop (i + 1) line) ≡ w
+word_goes line i w l ne h = run_goes in_word line i w l (other_in _ ne) h
+
+pub word_stops : (line : List ℕ) (i w : ℕ) → i < length line → get_or line i 0 ≡ 32 → i + word_length (drop i line) ≡ w → i ≡ w
+word_stops line i w l e h = run_stops in_word line i w l (space_out _ e) h
+
+pub word_ends : (line : List ℕ) (i w : ℕ) → length line ≤ i → i ≤ length line → i + word_length (drop i line) ≡ w → length line ≡ w
+word_ends line i w l m h = run_ends in_word line i w l m h
 
 pub shorn_empty : (line : List ℕ) → length line ≡ 0 → line ≡ shorn line
 shorn_empty [] e = refl

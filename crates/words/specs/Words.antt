@@ -4,14 +4,18 @@ use Rattle.std.specs.List.{prefix_len}
 use Rattle.words.specs.declared.expected.Expected.{Expected}
 use Rattle.words.specs.declared.expected.Expected.TheVariants.{End}
 
--- a space, or anything else
-abbrev pub is_space : Bool → ℕ → Bool
-is_space true c = c == 32
-is_space false c = not (c == 32)
+-- a character of the first word, which ends before a space
+abbrev pub in_word : ℕ → Bool
+in_word c = not (c == 32)
 
 -- how many characters stand before the first space
 abbrev pub word_length : List ℕ → ℕ
-word_length text = prefix_len (is_space false) text
+word_length line = prefix_len in_word line
+
+-- a space, or anything else
+abbrev pub is_space : Bool → ℕ → Bool
+is_space true c = c == 32
+is_space false c = in_word c
 
 -- a text without the spaces at its front
 abbrev pub trimmed : List ℕ → List ℕ

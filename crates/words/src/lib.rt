@@ -1,5 +1,8 @@
 //! The words of a text, one by one: how a line is cut into words, and how a number, a key, a level and a type are
 //! written as a word and read from one. A word that is none of these is refused with what was expected.
+
+#![tactic(auto)]
+
 mod expected;
 mod keys;
 mod lines;

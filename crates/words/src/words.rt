@@ -19,11 +19,11 @@ fn run_length(text: &[u8], spaces: bool) -> usize
 }
 
 /// How many characters stand before the first space.
-pub fn word_length(text: &[u8]) -> usize
-    ensures value { result ≡ word_length text.now }
-    ensures within { result ≤ length text.now }
+pub fn word_length(line: &[u8]) -> usize
+    ensures value { result ≡ word_length line.now }
+    ensures within { result ≤ length line.now }
 {
-    run_length(text, false)
+    run_length(line, false)
 }
 
 /// The first word of a text, and what follows it. The word is empty where there is none.

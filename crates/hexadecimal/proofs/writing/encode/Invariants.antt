@@ -1,4 +1,4 @@
-use Rattle.std.proofs.Common.{◌≡◌, ◌++◌, take, drop, string_bytes}
+use Rattle.std.proofs.Common.{◌≡◌, ◌++◌, drop, string_bytes}
 use Rattle.hexadecimal.specs.Text.{text_of}
 use Rattle.hexadecimal.proofs.writing.encode.Given as goal
 
