@@ -2,9 +2,7 @@ ghost use Rattle.std.specs.Prelude.{◌≡◌};
 ghost use Rattle.cli.specs.Words.{command_of};
 
 use crate::check::check;
-use crate::show::show;
 use crate::usage::USAGE;
-use crate::write::write;
 use std::io;
 
 /// What the program is asked to do.
@@ -12,10 +10,6 @@ use std::io;
 pub enum Command {
     /// Judge the messages on standard input.
     Check,
-    /// Print the messages on standard input as text.
-    Show,
-    /// Print the octets of the text on standard input.
-    Write,
     /// Print how the program is used.
     Help,
     /// The words name no command.
@@ -29,8 +23,6 @@ impl Command {
     {
         match word {
             "check" => Command::Check,
-            "show" => Command::Show,
-            "write" => Command::Write,
             "help" | "--help" | "-h" => Command::Help,
             _ => Command::Unknown,
         }
@@ -40,8 +32,6 @@ impl Command {
     pub fn run(self, rt: &HostRuntime) -> io::Result<()> {
         match self {
             Command::Check => check(rt),
-            Command::Show => show(rt),
-            Command::Write => write(rt),
             Command::Help => rt.print(USAGE),
             Command::Unknown => unknown(rt),
         }

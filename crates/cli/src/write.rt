@@ -52,7 +52,7 @@ fn read(rt: &HostRuntime) -> io::Result<Result<Message, TextFault>> {
 fn print(rt: &HostRuntime, message: &Message) -> io::Result<()> {
     let mut octets = [0; 1560];
     let Ok(length) = write_message(&mut octets, message) else {
-        return Err(io::Error::from(io::ErrorKind::InvalidInput));
+        return Err(io::Error::from(io::ErrorKind::InvalidData));
     };
     let mut text = String::new(rt.alloc());
     hexadecimal::encode(&mut text, octets.split_at(length.min(1560)).0)?;

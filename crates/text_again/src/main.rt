@@ -1,5 +1,8 @@
 //! Messages shown as text, read again from that text and written again: whether the octets are the same. What it prints
 //! is compared with the file `stdout` beside `src`.
+
+#![tactic(auto)]
+
 use anyhow::anyhow;
 use cli::{read_message, write_message};
 use request::Request;

@@ -1,6 +1,9 @@
 //! The faults of texts, as `gx write` names them. A line that is refused changes nothing, so reading goes on behind it; a
 //! line with the word `next` ends one text and begins another. What it prints is compared with the file `stdout` beside
 //! `src`.
+
+#![tactic(auto)]
+
 use cli::TextFault;
 use std::io;
 use std::io::{BufRead, BufReader};

@@ -1,8 +1,11 @@
 //! `gx show` on a handful of lines: each kind and each form, keys with odd octets, a refusal and a line that is no
 //! message. What it prints is compared with the file `stdout` beside `src`.
-use cli::Command;
+
+#![tactic(auto)]
+
+use cli::TextCommand;
 use std::io;
 
 fn main(rt: HostRuntime) -> io::Result<()> {
-    Command::Show.run(&rt)
+    TextCommand::Show.run(&rt)
 }

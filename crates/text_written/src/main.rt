@@ -1,8 +1,11 @@
 //! `gx write` on one text, with a comment, a blank line, a carriage return and spaces in every place where they may be.
 //! What it prints is compared with the file `stdout` beside `src`.
-use cli::Command;
+
+#![tactic(auto)]
+
+use cli::TextCommand;
 use std::io;
 
 fn main(rt: HostRuntime) -> io::Result<()> {
-    Command::Write.run(&rt)
+    TextCommand::Write.run(&rt)
 }

@@ -1,0 +1,36 @@
+ghost use Rattle.std.specs.Prelude.{◌≡◌};
+ghost use Rattle.cli.specs.Words.{text_command_of};
+
+use crate::show::show;
+use crate::write::write;
+use std::io;
+
+/// What the program is asked to do with texts of messages.
+#[derive(Clone, Copy)]
+pub enum TextCommand {
+    /// Print the messages on standard input as text.
+    Show,
+    /// Print the octets of the text on standard input.
+    Write,
+}
+
+impl TextCommand {
+    /// The command of the first word after the program's name, if it is about texts.
+    pub fn of(word: &str) -> Option<TextCommand>
+        ensures { result ≡ text_command_of word.now }
+    {
+        match word {
+            "show" => Some(TextCommand::Show),
+            "write" => Some(TextCommand::Write),
+            _ => None,
+        }
+    }
+
+    /// Runs the command on the standard streams.
+    pub fn run(self, rt: &HostRuntime) -> io::Result<()> {
+        match self {
+            TextCommand::Show => show(rt),
+            TextCommand::Write => write(rt),
+        }
+    }
+}
