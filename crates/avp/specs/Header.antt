@@ -66,7 +66,7 @@ first_avp at bs = cond (fits_in bs) (Ok (parsed at bs)) (Err (message_fault Over
 
 -- the code's values as those above
 abbrev pub span : Part → Span
-span p = record { place = p.place; octets = take p.size (drop p.place p.message.now) }
+span p = record { place = p.place; octets = p.octets.now }
 
 abbrev pub seen : Avp → Parsed
 seen a = record { code = a.code; flags = a.flags; vendor = a.vendor; place = a.place; body = span a.body; rest = span a.rest }

@@ -1,7 +1,7 @@
 use crate::part::Part;
 
 /// The numbers that a field may hold.
-#[derive(Clone, Copy, Debug)]
+#[derive(Clone, Copy, Debug, PartialEq, Eq)]
 pub struct Limits {
     pub least: u64,
     pub most: u64,

@@ -7,6 +7,7 @@ mod field;
 mod header;
 mod meaning;
 mod name;
+mod name_text;
 mod octets;
 mod part;
 mod reading;

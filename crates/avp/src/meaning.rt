@@ -1,4 +1,6 @@
-ghost use Rattle.std.specs.Prelude.{◌≡◌};
+ghost use Rattle.std.specs.Prelude.{◌≡◌, false, length, MatchResult, ◌==◌};
+ghost use Rattle.fault.specs.declared.Code.TheVariants.{Width};
+ghost use Rattle.fault.specs.Numbers.{message_fault};
 ghost use Rattle.avp.specs.Fields.{allows, key_in, number_in, ranged, value_of, value_of_result};
 ghost use Rattle.avp.specs.Header.{mandatory, seen};
 ghost use Rattle.avp.specs.Names.{code_of, name_of, vendor_of};
@@ -73,7 +75,7 @@ impl Limits {
     pub fn allow(&self, n: u64) -> bool
         ensures { result ≡ allows self.now n }
     {
-        self.least <= n && n <= self.most
+        (self.least..=self.most).contains(&n)
     }
 }
 
@@ -94,9 +96,11 @@ impl<'a> Avp<'a> {
             | Name::CcRequestType
             | Name::UsageMonitoringLevel
             | Name::UsageMonitoringReport
-            | Name::UsageMonitoringSupport => self.number32(limits),
+            | Name::UsageMonitoringSupport => {
+                self.number(u64::from(u32_at(self.wide(4)?, 0)), limits)
+            }
             Name::CcInputOctets | Name::CcOutputOctets | Name::CcTotalOctets => {
-                self.number64(limits)
+                self.number(u64_at(self.wide(8)?, 0), limits)
             }
             Name::MonitoringKey => self.key(),
             Name::GrantedServiceUnit | Name::UsedServiceUnit | Name::UsageMonitoringInformation =>
@@ -104,24 +108,15 @@ impl<'a> Avp<'a> {
         }
     }
 
-    fn number32(&self, limits: Limits) -> Result<Field<'a>, Fault>
-        ensures { value_of_result result ≡ number_in 4 (u32_at (seen self.now).body.octets 0) limits (seen self.now) }
+    // The data, which must have so many octets.
+    fn wide(&self, width: usize) -> Result<&'a [u8], Fault>
+        ensures { MatchResult result (λ octets. (octets.now ≡ (seen self.now).body.octets) × (length octets.now ≡ width)) (λ fault. (fault ≡ message_fault Width self.now.place) × ((length (seen self.now).body.octets == width) ≡ false)) }
     {
         let octets = self.body.octets();
-        if octets.len() != 4 {
+        if octets.len() != width {
             return Err(Fault::message(Code::Width, self.place));
         }
-        self.number(u32_at(octets, 0) as u64, limits)
-    }
-
-    fn number64(&self, limits: Limits) -> Result<Field<'a>, Fault>
-        ensures { value_of_result result ≡ number_in 8 (u64_at (seen self.now).body.octets 0) limits (seen self.now) }
-    {
-        let octets = self.body.octets();
-        if octets.len() != 8 {
-            return Err(Fault::message(Code::Width, self.place));
-        }
-        self.number(u64_at(octets, 0), limits)
+        Ok(octets)
     }
 
     fn number(&self, n: u64, limits: Limits) -> Result<Field<'a>, Fault>
@@ -137,7 +132,7 @@ impl<'a> Avp<'a> {
         ensures { value_of_result result ≡ key_in (seen self.now) }
     {
         let octets = self.body.octets();
-        if octets.is_empty() || octets.len() > 16 {
+        if !(1..=16).contains(&octets.len()) {
             return Err(Fault::message(Code::Width, self.place));
         }
         Ok(Field::Key(octets))

@@ -1,5 +1,5 @@
 /// The twelve AVPs that are known here, each by its code and vendor. Any other pair is unknown.
-#[derive(Clone, Copy, Debug)]
+#[derive(Clone, Copy, Debug, PartialEq, Eq)]
 pub enum Name {
     CcInputOctets,
     CcOutputOctets,

@@ -6,7 +6,7 @@ pub(crate) fn u24_at(octets: &[u8], at: usize) -> u32
     requires { at + 3 ≤ length octets.now }
     ensures { result ≡ u24_at octets.now at }
 {
-    octets[at] as u32 * 65536 + octets[at + 1] as u32 * 256 + octets[at + 2] as u32
+    u32::from_be_bytes([0, octets[at], octets[at + 1], octets[at + 2]])
 }
 
 pub(crate) fn u32_at(octets: &[u8], at: usize) -> u32
@@ -20,5 +20,14 @@ pub(crate) fn u64_at(octets: &[u8], at: usize) -> u64
     requires { at + 8 ≤ length octets.now }
     ensures { result ≡ u64_at octets.now at }
 {
-    u32_at(octets, at) as u64 * 4294967296 + u32_at(octets, at + 4) as u64
+    u64::from_be_bytes([
+        octets[at],
+        octets[at + 1],
+        octets[at + 2],
+        octets[at + 3],
+        octets[at + 4],
+        octets[at + 5],
+        octets[at + 6],
+        octets[at + 7],
+    ])
 }

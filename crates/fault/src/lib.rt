@@ -3,6 +3,8 @@
 
 #![tactic(auto)]
 
+mod layer_text;
+
 ghost use Rattle.std.specs.Prelude.{◌≡◌};
 ghost use Rattle.fault.specs.Numbers.{call_fault, layer_of, message_fault, number_of};
 

@@ -71,10 +71,9 @@ fn take<G: Group>(group: &mut G, avp: &Avp) -> Result<(), Fault>
 fn finish<G: Group>(group: &G, part: Part) -> Result<G::Whole, Fault>
     ensures { meaning G.Group.meant result ≡ ended G.Group.rules (span part.entry) (G.Group.sofar group.now) }
 {
-    match group.whole() {
-        Some(whole) => Ok(whole),
-        None => Err(Fault::message(Code::Absent, part.end())),
-    }
+    group
+        .whole()
+        .ok_or(Fault::message(Code::Absent, part.end()))
 }
 
 /// Reads a group or message from its first octet to its last, into `group`, which has no members so far.

@@ -1,3 +1,4 @@
+pub mod Members
 pub mod Report
 pub mod Answer
 pub mod Command

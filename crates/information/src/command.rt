@@ -4,12 +4,12 @@ ghost use Rattle.information.specs.declared.values.CommandGroup.{CommandGroup};
 ghost use Rattle.information.specs.declared.values.CommandGroupSoFar.{CommandGroupSoFar};
 ghost use Rattle.information.specs.Command.{read_command_group, rules as commandRules};
 
+use crate::members::Members;
 use crate::values::{CommandGroup, CommandGroupSoFar, Order};
 use avp::{Field, Limits, Name, Part};
 use fault::Fault;
 use group::{Group, read};
-use key::Key;
-use units::{Level, limits, read_units};
+use units::limits;
 
 impl Group for CommandGroupSoFar {
     type Whole = CommandGroup;
@@ -26,28 +26,23 @@ impl Group for CommandGroupSoFar {
 
     fn repeats(&self, name: Name) -> bool {
         match name {
-            Name::MonitoringKey => self.key.is_some(),
-            Name::GrantedServiceUnit => self.granted.is_some(),
-            Name::UsageMonitoringLevel => self.level.is_some(),
             Name::UsageMonitoringReport => self.report,
             Name::UsageMonitoringSupport => self.support,
-            _ => false,
+            _ => self.members.have(true, name),
         }
     }
 
     fn admits(&self, name: Name) -> bool {
         // the kinds that the members so far allow
-        let bare = self.granted.is_none() && self.level.is_none();
+        let bare = self.members.units.is_none() && self.members.level.is_none();
         let grant = !self.report && !self.support;
         let disable = bare && !self.report;
         let request = bare && !self.support;
         match name {
-            Name::MonitoringKey => self.key.is_none() && (grant || disable || request),
-            Name::GrantedServiceUnit => self.granted.is_none() && grant,
-            Name::UsageMonitoringLevel => self.level.is_none() && grant,
             Name::UsageMonitoringReport => !self.report && request,
             Name::UsageMonitoringSupport => !self.support && disable,
-            _ => false,
+            Name::MonitoringKey => self.members.key.is_none() && (grant || disable || request),
+            _ => self.members.lack(true, name) && grant,
         }
     }
 
@@ -57,40 +52,31 @@ impl Group for CommandGroupSoFar {
 
     fn put(&mut self, name: Name, field: Field, _place: usize) -> Result<(), Fault> {
         match (name, field) {
-            (Name::MonitoringKey, Field::Key(octets)) => self.key = Key::new(octets),
-            (Name::GrantedServiceUnit, Field::Group(part)) => {
-                self.granted = Some(read_units(part, true)?);
-            }
-            (Name::UsageMonitoringLevel, Field::Number(n)) => self.level = Some(Level::of(n)),
             (Name::UsageMonitoringReport, Field::Number(_)) => self.report = true,
             (Name::UsageMonitoringSupport, Field::Number(_)) => self.support = true,
-            // no other member is admitted
-            _ => {}
+            _ => self.members.put(true, name, field)?,
         }
         Ok(())
     }
 
     fn whole(&self) -> Option<CommandGroup> {
-        let order = match (
-            self.report,
-            self.support,
-            self.key,
-            self.granted,
-            self.level,
-        ) {
-            (true, false, key, None, None) => Order::Request { key },
-            (false, true, Some(key), None, None) => Order::Disable { key },
-            (false, false, Some(key), Some(units), Some(level)) => Order::Grant {
-                key,
+        let Members {
+            place,
+            key,
+            level,
+            units,
+        } = self.members;
+        let order = match (self.report, self.support, level, units) {
+            (true, false, None, None) => Order::Request { key },
+            (false, true, None, None) => Order::Disable { key: key? },
+            (false, false, Some(level), Some(units)) => Order::Grant {
+                key: key?,
                 level,
                 units,
             },
             _ => return None,
         };
-        Some(CommandGroup {
-            place: self.place,
-            order,
-        })
+        Some(CommandGroup { place, order })
     }
 }
 
@@ -99,10 +85,7 @@ pub fn read_command_group(place: usize, part: Part) -> Result<CommandGroup, Faul
     ensures { result ≡ read_command_group place (span part.entry) }
 {
     let mut group = CommandGroupSoFar {
-        place,
-        key: None,
-        level: None,
-        granted: None,
+        members: Members::begin(place),
         report: false,
         support: false,
     };

@@ -5,6 +5,7 @@
 
 mod answer;
 mod command;
+mod members;
 mod report;
 mod values;
 

@@ -1,22 +1,22 @@
 ghost use Rattle.std.specs.Prelude.{◌≡◌};
 ghost use Rattle.avp.specs.Header.{span};
+ghost use Rattle.information.specs.declared.members.Members.{Members};
 ghost use Rattle.information.specs.declared.values.ReportGroup.{ReportGroup};
-ghost use Rattle.information.specs.declared.values.ReportGroupSoFar.{ReportGroupSoFar};
 ghost use Rattle.information.specs.Report.{read_report_group, rules as reportRules};
 
+use crate::members::Members;
 use crate::values::{ReportGroup, ReportGroupSoFar};
 use avp::{Field, Limits, Name, Part};
 use fault::Fault;
 use group::{Group, read};
-use key::Key;
-use units::{Level, limits, read_units};
+use units::limits;
 
 impl Group for ReportGroupSoFar {
     type Whole = ReportGroup;
 
-    ghost Sofar = { ReportGroupSoFar };
+    ghost Sofar = { Members };
 
-    ghost sofar = { λ g. g };
+    ghost sofar = { λ g. g.0 };
 
     ghost Meant = { ReportGroup };
 
@@ -25,21 +25,11 @@ impl Group for ReportGroupSoFar {
     ghost rules = { reportRules };
 
     fn repeats(&self, name: Name) -> bool {
-        match name {
-            Name::MonitoringKey => self.key.is_some(),
-            Name::UsedServiceUnit => self.used.is_some(),
-            Name::UsageMonitoringLevel => self.level.is_some(),
-            _ => false,
-        }
+        self.0.have(false, name)
     }
 
     fn admits(&self, name: Name) -> bool {
-        match name {
-            Name::MonitoringKey => self.key.is_none(),
-            Name::UsedServiceUnit => self.used.is_none(),
-            Name::UsageMonitoringLevel => self.level.is_none(),
-            _ => false,
-        }
+        self.0.lack(false, name)
     }
 
     fn limits(&self, name: Name) -> Limits {
@@ -47,27 +37,15 @@ impl Group for ReportGroupSoFar {
     }
 
     fn put(&mut self, name: Name, field: Field, _place: usize) -> Result<(), Fault> {
-        match (name, field) {
-            (Name::MonitoringKey, Field::Key(octets)) => self.key = Key::new(octets),
-            (Name::UsedServiceUnit, Field::Group(part)) => {
-                self.used = Some(read_units(part, false)?);
-            }
-            (Name::UsageMonitoringLevel, Field::Number(n)) => self.level = Some(Level::of(n)),
-            // no other member is admitted
-            _ => {}
-        }
-        Ok(())
+        self.0.put(false, name, field)
     }
 
     fn whole(&self) -> Option<ReportGroup> {
-        let (Some(key), Some(level), Some(used)) = (self.key, self.level, self.used) else {
-            return None;
-        };
         Some(ReportGroup {
-            place: self.place,
-            key,
-            level,
-            used,
+            place: self.0.place,
+            key: self.0.key?,
+            level: self.0.level?,
+            used: self.0.units?,
         })
     }
 }
@@ -76,11 +54,5 @@ impl Group for ReportGroupSoFar {
 pub fn read_report_group(place: usize, part: Part) -> Result<ReportGroup, Fault>
     ensures { result ≡ read_report_group place (span part.entry) }
 {
-    let mut group = ReportGroupSoFar {
-        place,
-        key: None,
-        level: None,
-        used: None,
-    };
-    read(&mut group, part)
+    read(&mut ReportGroupSoFar(Members::begin(place)), part)
 }

@@ -1,3 +1,4 @@
+use crate::members::Members;
 use key::Key;
 use units::{Level, Units};
 
@@ -48,29 +49,16 @@ pub struct CommandGroup {
 
 /// What is known of a report's group so far.
 #[derive(Clone, Copy)]
-pub struct ReportGroupSoFar {
-    pub(crate) place: usize,
-    pub(crate) key: Option<Key>,
-    pub(crate) level: Option<Level>,
-    pub(crate) used: Option<Units>,
-}
+pub struct ReportGroupSoFar(pub(crate) Members);
 
 /// What is known of an answer's group so far.
 #[derive(Clone, Copy)]
-pub struct AnswerGroupSoFar {
-    pub(crate) place: usize,
-    pub(crate) key: Option<Key>,
-    pub(crate) level: Option<Level>,
-    pub(crate) granted: Option<Units>,
-}
+pub struct AnswerGroupSoFar(pub(crate) Members);
 
 /// What is known of a command's group so far.
 #[derive(Clone, Copy)]
 pub struct CommandGroupSoFar {
-    pub(crate) place: usize,
-    pub(crate) key: Option<Key>,
-    pub(crate) level: Option<Level>,
-    pub(crate) granted: Option<Units>,
+    pub(crate) members: Members,
     pub(crate) report: bool,
     pub(crate) support: bool,
 }

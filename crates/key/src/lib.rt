@@ -3,6 +3,5 @@
 #![tactic(auto)]
 
 mod key;
-mod making;
 
 pub use key::Key;

@@ -1,5 +1,6 @@
 -- The groups of a message: up to sixteen, and each key at most once.
-use Rattle.std.specs.Prelude.{ℕ, Bool, true, false, cond, List, [], ◌∷◌, ◌++◌, length, Some, None, Ok, Err, Option, Result, nat_lt}
+use Rattle.std.specs.Prelude.{ℕ, Bool, false, cond, List, [], ◌∷◌, ◌++◌, length, Some, None, Ok, Err, Option, Result, nat_lt}
+use Rattle.std.specs.List.{list_any}
 use Rattle.fault.specs.declared.Code.TheVariants.{RepeatedKey, TooMany}
 use Rattle.fault.specs.declared.Fault.{Fault}
 use Rattle.fault.specs.Numbers.{message_fault}
@@ -34,8 +35,7 @@ same_keys (Some a) (Some b) = same_key a b
 
 -- whether one of the groups has this key
 abbrev pub has_key : {V : Type 0} → (V → Option Key) → Option Key → List V → Bool
-has_key keyed k [] = false
-has_key keyed k (v ∷ vs) = cond (same_keys (keyed v) k) true (has_key keyed k vs)
+has_key keyed k vs = list_any (λ v. same_keys (keyed v) k) vs
 
 -- one group more, which was read whole and starts at a place
 abbrev pub added : {V : Type 0} → (V → Option Key) → List V → ℕ → V → Result (List V) Fault

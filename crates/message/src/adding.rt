@@ -3,7 +3,7 @@ ghost use Rattle.avp.specs.Header.{span};
 ghost use Rattle.group.specs.Members.{left};
 ghost use Rattle.group.specs.Walk.{then};
 ghost use Rattle.message.specs.Groups.{list_of};
-ghost use Rattle.message.specs.Keyed.{added, has_key, same_keys};
+ghost use Rattle.message.specs.Keyed.{added, has_key};
 
 use crate::entry::Entry;
 use crate::groups::Groups;
@@ -11,25 +11,13 @@ use avp::Part;
 use fault::{Code, Fault};
 use key::Key;
 
-fn same(a: Option<Key>, b: Option<Key>) -> bool
-    ensures { result ≡ same_keys a b }
-{
-    match (a, b) {
-        (Some(a), Some(b)) => a.is(&b),
-        _ => false,
-    }
-}
-
 /// Whether one of the groups has this key.
 pub fn has_key<V: Entry>(groups: &[V], key: Option<Key>) -> bool
     ensures { result ≡ has_key V.Entry.keyed key groups.now }
 {
-    for group in groups {
-        if same(group.key(), key) {
-            return true;
-        }
-    }
-    false
+    groups
+        .iter()
+        .any(|group| key.is_some() && group.key() == key)
 }
 
 impl<V: Entry> Groups<V> {
@@ -41,9 +29,7 @@ impl<V: Entry> Groups<V> {
         if has_key(self.as_slice(), group.key()) {
             return Err(Fault::message(Code::RepeatedKey, place));
         }
-        if !self.push(group) {
-            return Err(Fault::message(Code::TooMany, place));
-        }
-        Ok(())
+        self.push(group)
+            .map_err(|_| Fault::message(Code::TooMany, place))
     }
 }

@@ -9,6 +9,7 @@ use crate::values::Command;
 use avp::{Field, Limits, Name, Part};
 use fault::Fault;
 use group::{Group, read};
+use information::CommandGroup;
 use units::limits;
 
 impl Group for Command {
@@ -49,12 +50,14 @@ impl Group for Command {
     }
 }
 
-/// The command of these octets.
-pub fn read_command(octets: &[u8]) -> Result<Command, Fault>
-    ensures { meaning orders result ≡ read_command octets.now }
-{
-    let mut command = Command {
-        groups: Groups::new(<information::CommandGroup as crate::entry::Entry>::blank()),
-    };
-    read(&mut command, Part::message(octets))
+impl Command {
+    /// The command of these octets.
+    pub fn read(octets: &[u8]) -> Result<Command, Fault>
+        ensures { meaning orders result ≡ read_command octets.now }
+    {
+        let mut command = Command {
+            groups: Groups::new(CommandGroup::blank()),
+        };
+        read(&mut command, Part::message(octets))
+    }
 }

@@ -1,4 +1,4 @@
-ghost use Rattle.std.specs.Prelude.{◌≡◌, ◌<◌, [], ◌∷◌, ◌++◌, length, if◌then◌else◌, nat_le, nat_lt};
+ghost use Rattle.std.specs.Prelude.{◌≡◌, [], ◌∷◌, ◌++◌, length, is_ok, if◌then◌else◌, Ok, Err, nat_le, nat_lt};
 ghost use Rattle.message.specs.Groups.{list_of};
 
 /// The groups of a message, in their order: up to sixteen.
@@ -6,14 +6,6 @@ ghost use Rattle.message.specs.Groups.{list_of};
 pub struct Groups<V> {
     items: [V; 16],
     count: usize,
-}
-
-// What the type says, as a fact for a proof.
-fn all<V>(items: &[V; 16]) -> &[V]
-    ensures value { result.now ≡ items.now }
-    ensures len { length result.now ≡ 16 }
-{
-    &items[..]
 }
 
 impl<V: Copy> Groups<V> {
@@ -31,36 +23,26 @@ impl<V: Copy> Groups<V> {
     pub fn as_slice(&self) -> &[V]
         ensures { result.now ≡ list_of self.now }
     {
-        let table = all(&self.items);
-        &table[0..self.count.min(16)]
+        &self.items[..self.count.min(16)]
     }
 
     /// Whether there are sixteen groups.
     pub fn is_full(&self) -> bool
         ensures { result ≡ nat_le 16 (length (list_of self.now)) }
     {
-        self.as_slice().len() >= 16
+        self.count >= 16
     }
 
-    // One group more, behind the others.
-    fn store(&mut self, group: V)
-        requires { length (list_of self.old) < 16 }
-        ensures { list_of self.new ≡ list_of self.old ++ group ∷ [] }
-    {
-        let at = self.count.min(all(&self.items).len());
-        self.items[at] = group;
-        self.count = at + 1;
-    }
-
-    /// One group more, unless there are sixteen; whether it was taken.
-    pub fn push(&mut self, group: V) -> bool
-        ensures taken { result ≡ nat_lt (length (list_of self.old)) 16 }
-        ensures after { list_of self.new ≡ (if result then list_of self.old ++ group ∷ [] else list_of self.old) }
+    /// One group more, unless there are sixteen: then it comes back.
+    pub fn push(&mut self, group: V) -> Result<(), V>
+        ensures taken { result ≡ (if nat_lt (length (list_of self.old)) 16 then Ok tt else Err group) }
+        ensures after { list_of self.new ≡ (if is_ok result then list_of self.old ++ group ∷ [] else list_of self.old) }
     {
         if self.is_full() {
-            return false;
+            return Err(group);
         }
-        self.store(group);
-        true
+        self.items[self.count] = group;
+        self.count += 1;
+        Ok(())
     }
 }

@@ -13,8 +13,6 @@ mod values;
 
 pub use adding::has_key;
 pub use checking::{check, verdict};
-pub use commands::read_command;
 pub use entry::Entry;
 pub use groups::Groups;
-pub use numbered::{read_answer, read_report};
 pub use values::{Answer, Command, Kind, Numbered, Report};

@@ -1,6 +1,6 @@
 ghost use Rattle.std.specs.Prelude.{◌≡◌};
 ghost use Rattle.group.specs.Members.{meaning};
-ghost use Rattle.message.specs.Numbered.{Message, message, Partial, partial, read_answer, read_report, rules as numberedRules};
+ghost use Rattle.message.specs.Numbered.{Message, begun, message, Partial, partial, read_answer, read_report, rules as numberedRules};
 
 use crate::entry::Entry;
 use crate::groups::Groups;
@@ -8,6 +8,7 @@ use crate::values::{Answer, Numbered, NumberedSoFar, Report};
 use avp::{Field, Limits, Name, Part};
 use fault::Fault;
 use group::{Group, read};
+use information::{AnswerGroup, ReportGroup};
 use units::{RequestType, limits};
 
 impl<V: Entry> Group for NumberedSoFar<V> {
@@ -58,37 +59,41 @@ impl<V: Entry> Group for NumberedSoFar<V> {
     }
 
     fn whole(&self) -> Option<Numbered<V>> {
-        let (Some(number), Some(request_type)) = (self.number, self.request_type) else {
-            return None;
-        };
         Some(Numbered {
-            number,
-            request_type,
+            number: self.number?,
+            request_type: self.request_type?,
             groups: self.groups,
         })
     }
 }
 
-/// The report of these octets.
-pub fn read_report(octets: &[u8]) -> Result<Report, Fault>
-    ensures { meaning message result ≡ read_report octets.now }
-{
-    let mut message = NumberedSoFar {
-        number: None,
-        request_type: None,
-        groups: Groups::new(<information::ReportGroup as Entry>::blank()),
-    };
-    read(&mut message, Part::message(octets))
+impl<V: Entry> NumberedSoFar<V> {
+    /// No members so far.
+    fn begin() -> NumberedSoFar<V>
+        ensures { partial result ≡ begun }
+    {
+        NumberedSoFar {
+            number: None,
+            request_type: None,
+            groups: Groups::new(V::blank()),
+        }
+    }
 }
 
-/// The answer of these octets.
-pub fn read_answer(octets: &[u8]) -> Result<Answer, Fault>
-    ensures { meaning message result ≡ read_answer octets.now }
-{
-    let mut message = NumberedSoFar {
-        number: None,
-        request_type: None,
-        groups: Groups::new(<information::AnswerGroup as Entry>::blank()),
-    };
-    read(&mut message, Part::message(octets))
+impl Numbered<ReportGroup> {
+    /// The report of these octets.
+    pub fn read(octets: &[u8]) -> Result<Report, Fault>
+        ensures { meaning message result ≡ read_report octets.now }
+    {
+        read(&mut NumberedSoFar::begin(), Part::message(octets))
+    }
+}
+
+impl Numbered<AnswerGroup> {
+    /// The answer of these octets.
+    pub fn read(octets: &[u8]) -> Result<Answer, Fault>
+        ensures { meaning message result ≡ read_answer octets.now }
+    {
+        read(&mut NumberedSoFar::begin(), Part::message(octets))
+    }
 }

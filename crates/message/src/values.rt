@@ -23,7 +23,7 @@ pub struct Command {
 }
 
 /// The kinds of message.
-#[derive(Clone, Copy, Debug)]
+#[derive(Clone, Copy, Debug, PartialEq, Eq)]
 pub enum Kind {
     Report,
     Answer,

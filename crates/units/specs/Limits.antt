@@ -41,3 +41,12 @@ level_of n = cond (n == 0) level.Session level.Rule
 -- 2 is an update, 3 the termination
 abbrev pub type_of : ℕ → RequestType
 type_of n = cond (n == 2) type.Update type.Termination
+
+-- and back
+abbrev pub level_number : Level → ℕ
+level_number level.Session = 0
+level_number level.Rule = 1
+
+abbrev pub type_number : RequestType → ℕ
+type_number type.Update = 2
+type_number type.Termination = 3

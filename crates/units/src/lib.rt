@@ -5,6 +5,7 @@
 
 mod gathering;
 mod numbers;
+mod numerals;
 mod values;
 
 pub use gathering::read_units;

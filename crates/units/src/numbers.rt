@@ -8,7 +8,7 @@ use avp::{Limits, Name};
 pub fn limits(name: Name, granted: bool) -> Limits
     ensures { result ≡ limits_of granted name }
 {
-    let least = if granted { 1 } else { 0 };
+    let least = u64::from(granted);
     match name {
         Name::CcInputOctets | Name::CcOutputOctets => Limits {
             least,

@@ -1,19 +1,19 @@
 /// What a key counts: the octets of its rules, or of the whole session.
-#[derive(Clone, Copy, Debug)]
+#[derive(Clone, Copy, Debug, PartialEq, Eq)]
 pub enum Level {
     Session,
     Rule,
 }
 
 /// Why a report was sent.
-#[derive(Clone, Copy, Debug)]
+#[derive(Clone, Copy, Debug, PartialEq, Eq)]
 pub enum RequestType {
     Update,
     Termination,
 }
 
 /// Octets granted or used. Which numbers there are is the key's form: one total, one direction alone, or both.
-#[derive(Clone, Copy, Debug)]
+#[derive(Clone, Copy, Debug, PartialEq, Eq)]
 pub enum Units {
     Total(u64),
     Uplink(u64),
