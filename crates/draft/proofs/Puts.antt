@@ -1,7 +1,7 @@
 -- One write after another.
-use Rattle.std.proofs.Common.{◌≡◌, ℕ, ◌+◌, ◌≤◌, leb, List, [], ◌++◌, length, drop, IsErrAnd, Ok, Err, Result, sym, refl, ap, ◌∙◌, subst, append_assoc, append-nil, arith, length-append, MatchResult}
+use Rattle.std.proofs.Common.{◌≡◌, ℕ, ◌+◌, leb, List, ◌++◌, length, drop, IsErrAnd, Ok, Err, Result, sym, ap, ◌∙◌, subst, append_assoc, arith, length-append, MatchResult}
 use Rattle.std.proofs.lemmas.List.{drop-drop}
-use Rattle.std.proofs.lemmas.Bool.{leb-false, leb-true, le-leb, lt-leb}
+use Rattle.std.proofs.lemmas.Bool.{leb-false, lt-leb}
 use Rattle.std.proofs.lemmas.Result.{err_from_is_err_and}
 use Rattle.fault.specs.declared.Code.TheVariants.{Short}
 use Rattle.fault.specs.declared.Fault.{Fault}
@@ -28,6 +28,7 @@ pub put_then : {a b c : Draft} {x y : List ℕ} {r : Result (Unit {0}) Fault} �
 put_then {a} {b} {c} {x} {y} {r} p q =
     let more : b.len + length y ≡ a.len + length (x ++ y) = simp length-append (omega (arith, p.wrote.count)) in
     record {
+      lent = q.lent ∙ p.lent;
       size = q.size ∙ p.size;
       room = q.room ∙ ap (λ n. leb n (length b.out.now)) more ∙ ap (leb (a.len + length (x ++ y))) p.size;
       wrote = cases_then a b c x y r p.wrote q.wrote;
@@ -36,6 +37,7 @@ put_then {a} {b} {c} {x} {y} {r} p q =
 -- no room for the first of two
 pub put_stops : {a b : Draft} {x : List ℕ} {e : Fault} (y : List ℕ) → Put a x (Err e) b → Put a (x ++ y) (Err e) b
 put_stops {a} {b} {x} {e} y p = record {
+  lent = p.lent;
   size = p.size;
   room = sym (lt-leb (a.len + length (x ++ y)) (length a.out.now) (simp length-append (omega (arith, leb-false (a.len + length x) (length a.out.now) (sym p.room)))));
   wrote = p.wrote;
@@ -46,15 +48,3 @@ pub put_breaks : {a b : Draft} {x : List ℕ} {e : Fault} (y : List ℕ) (r : Re
 put_breaks {a} {b} {x} {e} y r h p =
     let q = err_from_is_err_and r h in
     subst (λ z. Put a (x ++ y) z b) (sym (q.1 ∙ ap Err q.2)) (put_stops y p)
-
--- what was written lies within the octets
-pub put_within : {a b : Draft} {x : List ℕ} → Put a x (Ok tt) b → b.len ≤ length b.out.now
-put_within {a} {b} {x} p = omega (arith, p.wrote.count, leb-true (a.len + length x) (length a.out.now) (sym p.room), p.size)
-
--- nothing more
-pub put_none : (a : Draft) → a.len ≤ length a.out.now → Put a [] (Ok tt) a
-put_none a h = record {
-  size = refl;
-  room = sym (le-leb (a.len + 0) (length a.out.now) (omega arith));
-  wrote = record { text = sym (append-nil (text a)); past = refl; count = omega arith };
-}

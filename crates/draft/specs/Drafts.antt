@@ -18,8 +18,9 @@ pub record Grown (was : Draft) (more : List ℕ) (is : Draft) : Type 0 where
   pub past : left is ≡ drop (length more) (left was)
   pub count : is.len ≡ was.len + length more
 
--- a write of more: it is done exactly if there is room, and else refused with code 22
+-- a write of more into the same lent octets: it is done exactly if there is room, and else refused with code 22
 pub record Put (was : Draft) (more : List ℕ) (r : Result (Unit {0}) Fault) (is : Draft) : Type 0 where
+  pub lent : is.out.ghost_name ≡ was.out.ghost_name
   pub size : length is.out.now ≡ length was.out.now
   pub room : is_ok r ≡ nat_le (was.len + length more) (length was.out.now)
   pub wrote : MatchResult r (λ _. Grown was more is) (λ e. e ≡ call_fault Short 0)

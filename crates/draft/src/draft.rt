@@ -1,17 +1,19 @@
-ghost use Rattle.std.specs.Prelude.{◌≡◌, length, replicate};
+ghost use Rattle.std.specs.Prelude.{◌≡◌, ◌≤◌, length, replicate};
 
-/// A message that is being written. Its end fills the lent octets with 0, unless the message was finished.
+/// A message that is being written. Its end fills all the lent octets with 0, unless the message was finished: so it
+/// keeps all of them, and not only those that are left.
 pub struct Draft<'a> {
     pub(crate) out: &'a mut [u8],
     pub(crate) len: usize,
+    pub ghost fits: { len ≤ length out.now },
 }
 
 impl Drop for Draft<'_> {
     fn drop(self)
         ensures { self.exit.0.now ≡ replicate (length self.entry.out.now) 0 }
     {
-        self.out.fill(0);
-        let Draft { out: _, len: _ } = self;
+        let Draft { out, len: _ } = self;
+        out.fill(0);
     }
 }
 

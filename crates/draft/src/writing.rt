@@ -7,12 +7,10 @@ use fault::{Code, Fault};
 impl Draft<'_> {
     /// Puts octets behind those that are written.
     pub fn put(&mut self, octets: &[u8]) -> Result<(), Fault>
-        ensures lent { self.new.out.ghost_name ≡ self.old.out.ghost_name }
-        ensures put { Put self.old octets.now result self.new }
+        ensures { Put self.old octets.now result self.new }
     {
-        let size = self.out.len();
         let from = self.len;
-        if from > size || size - from < octets.len() {
+        if self.out.len() - from < octets.len() {
             return Err(Fault::call(Code::Short, 0));
         }
         let to = from + octets.len();

@@ -1,4 +1,2 @@
-pub mod Grouped
 pub mod Each
 pub mod Checks
-pub mod Sent

@@ -1,6 +1,6 @@
 -- How many octets the parts of a message have.
-use Rattle.std.specs.Prelude.{◌≡◌, ℕ, ◌+◌, ◌-◌, ◌%◌, List, ◌++◌, length, replicate, Some, None, Option, refl}
-use Rattle.std.proofs.Common.{sym, ap, ◌∙◌, append-nil, arith, length-append}
+use Rattle.std.specs.Prelude.{◌≡◌, ℕ, ◌+◌, ◌-◌, ◌%◌, List, ◌++◌, length, Some, None, Option, refl}
+use Rattle.std.proofs.Common.{ap, ◌∙◌, arith, length-append}
 use Rattle.std.proofs.lemmas.List.{length-replicate}
 use Rattle.avp.specs.declared.name.Name.{Name}
 use Rattle.avp.specs.declared.name.Name.TheVariants.{MonitoringKey, UsedServiceUnit, GrantedServiceUnit, UsageMonitoringReport, UsageMonitoringSupport}
@@ -16,8 +16,8 @@ use Rattle.information.specs.declared.values.Order.{Order}
 use Rattle.information.specs.declared.values.Order.TheVariants.{Grant, Disable, Request}
 use Rattle.units.specs.declared.values.Units.{Units}
 use Rattle.units.specs.declared.values.Units.TheVariants.{Total, Uplink, Downlink, Both}
-use Rattle.draft.specs.Octets.{header_by, header_of, padding_of, written}
-use Rattle.wire.specs.Octets.{units_data, units_avp, key_avp, number_avp, level_avp, counted_data, report_data, granted_data, terms_data, answer_data, order_data, command_data}
+use Rattle.draft.specs.Octets.{header_by, header_of, key_avp, number_avp, padding_of, written}
+use Rattle.wire.specs.Octets.{units_data, units_avp, level_avp, counted_data, report_data, granted_data, terms_data, answer_data, order_data, command_data}
 
 -- how long a header is
 abbrev pub header_size : Option ℕ → ℕ
@@ -39,15 +39,6 @@ written_length n ds =
     ∙ (λ i. header_length_lem (code_of n) (vendor_of n) (length ds) i + length-append ds (padding_of (length ds)) i)
     ∙ ap (λ (k : ℕ). header_size (vendor_of n) + (length ds + k)) (length-replicate (padded (length ds) - length ds) 0)
     ∙ omega arith
-
-pub written_four : (n : Name) (ds : List ℕ) → length (written n ds) % 4 ≡ 0
-written_four n ds = omega (arith, written_length n ds, header_four (vendor_of n))
-
--- data whose length is a multiple of 4 have no padding
-pub unpadded : (n : Name) (ds : List ℕ) → length ds % 4 ≡ 0 → header_of n (length ds) ++ ds ≡ written n ds
-unpadded n ds h =
-    let none : padded (length ds) - length ds ≡ 0 = omega arith in
-    ap (λ l. header_of n (length ds) ++ l) (sym (append-nil ds) ∙ ap (λ (k : ℕ). ds ++ replicate k 0) (sym none))
 
 pub units_four : (u : Units) → length (units_data u) % 4 ≡ 0
 units_four (Total t) = refl
@@ -76,7 +67,7 @@ pub support_length : length (number_avp UsageMonitoringSupport 0) ≡ 16
 unfolding number_avp
 support_length = refl
 
-pub asked_length : length (number_avp UsageMonitoringReport 0) ≡ 16
+asked_length : length (number_avp UsageMonitoringReport 0) ≡ 16
 unfolding number_avp
 asked_length = refl
 
@@ -110,14 +101,20 @@ grant_length k l u = counted_length GrantedServiceUnit k u l (granted_length u)
 pub disable_length : (k : Key) → length (order_data (Disable k)) ≡ length (key_avp k) + 16
 disable_length k = length-append (key_avp k) (number_avp UsageMonitoringSupport 0) ∙ ap (λ (n : ℕ). length (key_avp k) + n) support_length
 
-pub request_length : (k : Key) → length (order_data (Request (Some k))) ≡ 16 + length (key_avp k)
-request_length k = length-append (number_avp UsageMonitoringReport 0) (key_avp k) ∙ ap (λ (n : ℕ). n + length (key_avp k)) asked_length
+-- the key of a request, if it names one
+abbrev pub named_size : Option Key → ℕ
+named_size None = 0
+named_size (Some k) = length (key_avp k)
+
+pub request_length : (o : Option Key) → length (order_data (Request o)) ≡ 16 + named_size o
+request_length None = asked_length
+request_length (Some k) = length-append (number_avp UsageMonitoringReport 0) (key_avp k) ∙ ap (λ (n : ℕ). n + length (key_avp k)) asked_length
 
 order_four : (o : Order) → length (order_data o) % 4 ≡ 0
 order_four (Grant k l u) = omega (arith, grant_length k l u, key_length k, units_four u)
 order_four (Disable k) = omega (arith, disable_length k, key_length k)
-order_four (Request None) = omega (arith, asked_length)
-order_four (Request (Some k)) = omega (arith, request_length k, key_length k)
+order_four (Request None) = omega (arith, request_length None)
+order_four (Request (Some k)) = omega (arith, request_length (Some k), key_length k)
 
 pub command_four : (g : CommandGroup) → length (command_data g) % 4 ≡ 0
 command_four g = order_four g.order

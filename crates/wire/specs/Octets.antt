@@ -1,13 +1,10 @@
 -- The octets of each message: its AVPs in their fixed order.
-use Rattle.std.specs.Prelude.{ℕ, List, [], ◌∷◌, ◌++◌, Some, None, Option}
+use Rattle.std.specs.Prelude.{ℕ, List, [], ◌++◌, Some, None, Option, flat_map}
 use Rattle.avp.specs.declared.name.Name.{Name}
-use Rattle.avp.specs.declared.name.Name.TheVariants.{CcRequestNumber, CcRequestType, CcInputOctets, CcOutputOctets, CcTotalOctets, GrantedServiceUnit, UsedServiceUnit, MonitoringKey, UsageMonitoringInformation, UsageMonitoringLevel, UsageMonitoringReport, UsageMonitoringSupport}
+use Rattle.avp.specs.declared.name.Name.TheVariants.{CcRequestNumber, CcRequestType, CcInputOctets, CcOutputOctets, CcTotalOctets, GrantedServiceUnit, UsedServiceUnit, UsageMonitoringInformation, UsageMonitoringLevel, UsageMonitoringReport, UsageMonitoringSupport}
 use Rattle.key.specs.declared.key.Key.{Key}
-use Rattle.key.specs.Keys.{octets_of}
 use Rattle.units.specs.declared.values.Level.{Level}
-use Rattle.units.specs.declared.values.Level.TheVariants as level
 use Rattle.units.specs.declared.values.RequestType.{RequestType}
-use Rattle.units.specs.declared.values.RequestType.TheVariants as type
 use Rattle.units.specs.declared.values.Units.{Units}
 use Rattle.units.specs.declared.values.Units.TheVariants.{Total, Uplink, Downlink, Both}
 use Rattle.information.specs.declared.values.ReportGroup.{ReportGroup}
@@ -16,15 +13,9 @@ use Rattle.information.specs.declared.values.CommandGroup.{CommandGroup}
 use Rattle.information.specs.declared.values.Order.{Order}
 use Rattle.information.specs.declared.values.Order.TheVariants.{Grant, Disable, Request}
 use Rattle.message.specs.Numbered.{Message}
-use Rattle.draft.specs.Octets.{be32, be64, written}
-
-abbrev pub level_number : Level → ℕ
-level_number level.Session = 0
-level_number level.Rule = 1
-
-abbrev pub type_number : RequestType → ℕ
-type_number type.Update = 2
-type_number type.Termination = 3
+use Rattle.units.specs.Limits.{level_number, type_number}
+use Rattle.draft.specs.Octets.{be64, key_avp, number_avp, written}
+use Rattle.wire.specs.declared.writing.Start.{Start}
 
 -- the data of a unit group; of both directions the uplink comes first
 abbrev pub units_data : Units → List ℕ
@@ -35,12 +26,6 @@ units_data (Both u d) = written CcInputOctets (be64 u) ++ written CcOutputOctets
 
 unfoldable pub units_avp : Name → Units → List ℕ
 units_avp n u = written n (units_data u)
-
-unfoldable pub key_avp : Key → List ℕ
-key_avp k = written MonitoringKey (octets_of k)
-
-unfoldable pub number_avp : Name → ℕ → List ℕ
-number_avp n x = written n (be32 x)
 
 abbrev pub level_avp : Level → List ℕ
 level_avp l = number_avp UsageMonitoringLevel (level_number l)
@@ -76,24 +61,23 @@ command_data g = order_data g.order
 unfoldable pub group_avp : List ℕ → List ℕ
 group_avp ds = written UsageMonitoringInformation ds
 
--- groups one after the other
-abbrev pub each : {V : Type 0} → (V → List ℕ) → List V → List ℕ
-each f [] = []
-each f (v ∷ vs) = f v ++ each f vs
-
 -- the number and the type of a report or an answer
 abbrev pub start_of : ℕ → RequestType → List ℕ
 start_of number type = number_avp CcRequestNumber number ++ number_avp CcRequestType (type_number type)
 
+abbrev pub opening : Option Start → List ℕ
+opening None = []
+opening (Some s) = start_of s.number s.request_type
+
 -- a report or an answer whose groups have these data
-abbrev pub numbered_octets : {V : Type 0} → (V → List ℕ) → ℕ → RequestType → List V → List ℕ
-numbered_octets f number type vs = start_of number type ++ each (λ v. group_avp (f v)) vs
+abbrev pub numbered_octets : {V : Type 0} → (V → List ℕ) → Message V → List ℕ
+numbered_octets f m = start_of m.number m.type ++ flat_map (λ v. group_avp (f v)) m.groups
 
 abbrev pub report_octets : Message ReportGroup → List ℕ
-report_octets m = numbered_octets report_data m.number m.type m.groups
+report_octets = numbered_octets report_data
 
 abbrev pub answer_octets : Message AnswerGroup → List ℕ
-answer_octets m = numbered_octets answer_data m.number m.type m.groups
+answer_octets = numbered_octets answer_data
 
 abbrev pub command_octets : List CommandGroup → List ℕ
-command_octets vs = each (λ v. group_avp (command_data v)) vs
+command_octets vs = flat_map (λ v. group_avp (command_data v)) vs

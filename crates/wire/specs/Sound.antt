@@ -1,11 +1,11 @@
 -- The values that a sound message can hold, and what a writer does with any other.
 use Rattle.std.specs.Prelude.{ℕ, Bool, true, false, cond, ◌&&◌, List, [], ◌∷◌, ◌++◌, length, drop, replicate, Some, None, Ok, Err, Option, Result, nat_le}
+use Rattle.std.specs.List.{list_all}
 use Rattle.fault.specs.declared.Code.TheVariants.{Range, RepeatedKey, Short}
 use Rattle.fault.specs.declared.Fault.{Fault}
 use Rattle.fault.specs.Numbers.{call_fault}
 use Rattle.avp.specs.declared.name.Name.TheVariants.{CcRequestNumber, CcInputOctets, CcOutputOctets, CcTotalOctets}
 use Rattle.avp.specs.Fields.{allows}
-use Rattle.group.specs.Shapes.{every}
 use Rattle.key.specs.declared.key.Key.{Key}
 use Rattle.key.specs.Keys.{key_of, octets_of, same_key}
 use Rattle.units.specs.declared.values.Units.{Units}
@@ -64,17 +64,21 @@ distinct keyed vs = distinct_after keyed [] vs
 abbrev pub fault_of : Bool → Bool → Option Fault
 fault_of in_range apart = cond in_range (cond apart None (Some (call_fault RepeatedKey 0))) (Some (call_fault Range 0))
 
-abbrev pub numbered_fault : {V : Type 0} → (V → Bool) → (V → Option Key) → ℕ → List V → Option Fault
-numbered_fault sound keyed number vs = fault_of (allows (limits_of false CcRequestNumber) number && every sound vs) (distinct keyed vs)
+abbrev pub checked : Option Fault → Result (Unit {0}) Fault
+checked None = Ok tt
+checked (Some f) = Err f
+
+abbrev pub numbered_fault : {V : Type 0} → (V → Bool) → (V → Option Key) → Message V → Option Fault
+numbered_fault sound keyed m = fault_of (allows (limits_of false CcRequestNumber) m.number && list_all sound m.groups) (distinct keyed m.groups)
 
 abbrev pub report_fault : Message ReportGroup → Option Fault
-report_fault m = numbered_fault sound_report report_key m.number m.groups
+report_fault = numbered_fault sound_report report_key
 
 abbrev pub answer_fault : Message AnswerGroup → Option Fault
-answer_fault m = numbered_fault sound_answer answer_key m.number m.groups
+answer_fault = numbered_fault sound_answer answer_key
 
 abbrev pub command_fault : List CommandGroup → Option Fault
-command_fault vs = fault_of (every sound_command vs) (distinct command_key vs)
+command_fault vs = fault_of (list_all sound_command vs) (distinct command_key vs)
 
 -- what a writer answers, and what it leaves in the lent octets: a refused value leaves them as they were; octets that
 -- are too few are all 0 afterwards; else they begin with the message, and the others stay

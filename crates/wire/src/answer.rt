@@ -1,51 +1,42 @@
-ghost use Rattle.std.specs.Prelude.{◌≡◌, ◌≤◌, length};
-ghost use Rattle.draft.specs.Drafts.{Put};
-ghost use Rattle.wire.specs.Octets.{answer_data, granted_data, terms_data};
+ghost use Rattle.wire.specs.Octets.{answer_data};
 ghost use Rattle.wire.specs.Lengths.{answer_four};
+ghost use Rattle.wire.specs.Sound.{sound_answer};
 
-use crate::parts::{key_size, put_key, put_level, put_units, units_size};
+use crate::data::{Data, put_avp};
+use crate::parts::key_size;
+use crate::sound::{are_sound_units, is_sound_key};
 use crate::written::Written;
 use avp::Name;
 use draft::Draft;
 use fault::Fault;
 use information::AnswerGroup;
-use units::{Level, Units};
 
-fn granted_size(granted: Option<Units>) -> u16
-    ensures value { result ≡ length (granted_data granted) }
-    ensures bound { result ≤ 40 }
-{
-    match granted {
-        None => 0,
-        Some(units) => 8 + units_size(units),
-    }
-}
-
-// The level, and the thresholds if there are any.
-fn put_terms(draft: &mut Draft, level: Level, granted: Option<Units>) -> Result<(), Fault>
-    ensures lent { draft.new.out.ghost_name ≡ draft.old.out.ghost_name }
-    ensures put { Put draft.old (terms_data level granted) result draft.new }
-{
-    match granted {
-        None => put_level(draft, level),
-        Some(units) => {
-            put_level(draft, level)?;
-            put_units(draft, Name::GrantedServiceUnit, units)
-        }
-    }
-}
-
-impl Written for AnswerGroup {
+impl Data for AnswerGroup {
     ghost octets = { answer_data };
 
     ghost four = { answer_four };
 
     fn size(&self) -> u16 {
-        key_size(&self.key) + 16 + granted_size(self.granted)
+        key_size(&self.key) + 16 + self.granted.map_or(0, |units| 8 + units.size())
     }
 
     fn put_data(&self, draft: &mut Draft) -> Result<(), Fault> {
-        put_key(draft, &self.key)?;
-        put_terms(draft, self.level, self.granted)
+        draft.put_key(&self.key)?;
+        draft.put_number(Name::UsageMonitoringLevel, self.level.into())?;
+        match self.granted {
+            None => Ok(()),
+            Some(units) => put_avp(draft, Name::GrantedServiceUnit, &units),
+        }
+    }
+}
+
+impl Written for AnswerGroup {
+    ghost sound = { sound_answer };
+
+    fn is_sound(&self) -> bool {
+        is_sound_key(&self.key)
+            && self
+                .granted
+                .is_none_or(|units| are_sound_units(true, units))
     }
 }

@@ -5,12 +5,16 @@
 
 mod answer;
 mod command;
+mod data;
 mod numbered;
 mod orders;
 mod parts;
 mod report;
 mod sound;
+mod writing;
 mod written;
 
-pub use numbered::{write_answer, write_report};
+pub use data::Data;
+pub use numbered::write_numbered;
 pub use orders::write_command;
+pub use written::Written;

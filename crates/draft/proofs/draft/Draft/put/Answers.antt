@@ -4,4 +4,4 @@ use Rattle.std.proofs.lemmas.List.{places, drop-drop}
 use Rattle.draft.proofs.draft.Draft.put.Goals as goal
 
 pub returns : goal.returns
-returns c = record { lent = refl; put = record { wrote = search (rules, overwrites, drop-drop); room = search rules; size = search (rules, places) } }
+returns c = record { lent = refl; wrote = search (rules, overwrites, drop-drop); room = search rules; size = search (rules, places) }
