@@ -3,7 +3,6 @@ use Rattle.std.proofs.Common.{◌≡◌, ℕ, ◌+◌, ◌*◌, ◌<◌, ◌≤�
 use Rattle.std.proofs.lemmas.Bool.{cases_eq}
 use Rattle.std.proofs.lemmas.Bool.Decides.{nat_tests}
 use Rattle.fault.specs.declared.Code.TheVariants.{Ceiling}
-use Rattle.fault.specs.declared.Fault.{Fault}
 use Rattle.fault.specs.Numbers.{call_fault}
 use Rattle.bank.specs.declared.counts.Counts.{Counts}
 use Rattle.bank.specs.Meaning.{none, place_of, count_of, raised}
@@ -20,16 +19,6 @@ pub record Slot (p d k : ℕ) : Type 0 where
 pub slot_found : (p d k : ℕ) → slot_of p d ≡ Ok k → Slot p d k
 slot_found p d k e = record { place = grind (arith, nat_tests); way = grind (arith, nat_tests); slot = grind (arith, nat_tests) }
 
--- no slot: the call is refused as the slot is, and leaves the counts
-pub add_nowhere : (top : ℕ) (cs : List Counts) (p d n : ℕ) (e : Fault) → slot_of p d ≡ Err e → added top cs p d n ≡ (cs, Err e)
-add_nowhere top cs p d n e h = grind (arith, nat_tests)
-
-pub take_nowhere : (cs : List Counts) (p : ℕ) (e : Fault) → slot_of p 0 ≡ Err e → taken_out cs p ≡ (cs, Err e)
-take_nowhere cs p e h = grind (arith, nat_tests)
-
-pub read_nowhere : (cs : List Counts) (p : ℕ) (e : Fault) → slot_of p 0 ≡ Err e → counts_at cs p ≡ Err e
-read_nowhere cs p e h = grind (arith, nat_tests)
-
 -- what the answer to an add tells
 pub record Done (top : ℕ) (cs : List Counts) (p d n : ℕ) : Type 0 where
   pub place : p ≤ 15
@@ -42,8 +31,9 @@ add_done top cs p d n e =
     record { place = grind (arith, nat_tests); way = grind (arith, nat_tests); fits = grind (arith, nat_tests); leaves = grind (arith, nat_tests) }
 
 -- one of the counts at a place is the one at its slot
-count_at : (f : ℕ → ℕ) (p d k : ℕ) → Slot p d k → count_of (place_of (places f) p) d ≡ f k
-count_at f p d k s =
+pub count_found : (f : ℕ → ℕ) (p d k : ℕ) → slot_of p d ≡ Ok k → count_of (place_of (places f) p) d ≡ f k
+count_found f p d k found =
+    let s = slot_found p d k found in
     let here = at_places f p (omega (arith, s.place)) in
     let way = s.way in
     let slot = s.slot in
@@ -56,7 +46,7 @@ add_past top f p d n k found past =
     let s = slot_found p d k found in
     let place = s.place in
     let way = s.way in
-    let here = count_at f p d k s in
+    let here = count_found f p d k found in
     grind (arith, nat_tests)
 
 -- a count that was raised at its slot is raised at its place
@@ -68,7 +58,7 @@ add_raises top f g p d n k found fits same more =
     let way = s.way in
     let slot = s.slot in
     let here = at_places f p (omega arith) in
-    let count = count_at f p d k s in
+    let count = count_found f p d k found in
     let other = same (2 * p) (omega arith) in
     let next = same (2 * p + 1) (omega arith) in
     let c : raised (place_of (places f) p) d n ≡ pair_at g p =

@@ -1,4 +1,5 @@
 pub mod Meaning
 pub mod Calls
+pub mod Directions
 pub mod Slots
 pub mod Stores

@@ -15,7 +15,7 @@ mod slots;
 pub mod store;
 
 pub use counts::Counts;
-pub use slots::{DOWNLINK, UPLINK, slot};
+pub use slots::{DOWNLINK, Direction, UPLINK, slot};
 
 /// A bank of counters.
 ///
@@ -29,15 +29,6 @@ pub trait Bank {
 
     // The meaning: the counts of place 0, of place 1 and so on.
     ghost counts: { Self → List Counts };
-
-    // What each bank owes: the bounds of its ceiling, and in every state sixteen places and no count above the ceiling.
-    ghost least: { 65535 ≤ ceiling };
-
-    ghost most: { ceiling ≤ 1099511627775 };
-
-    ghost sixteen: { (bank : Self) → length (counts bank) ≡ 16 };
-
-    ghost within: { (bank : Self) → Within ceiling (counts bank) };
 
     /// The ceiling, as code over any bank reads it.
     fn top() -> u64
@@ -57,4 +48,13 @@ pub trait Bank {
     /// Answers both counts of a place. A place above 15 is refused with code 5.
     fn read(&self, place: usize) -> Result<Counts, Fault>
         ensures { result ≡ counts_at (counts self.now) place };
+
+    // What each bank owes: the bounds of its ceiling, and in every state sixteen places and no count above the ceiling.
+    ghost least: { 65535 ≤ ceiling };
+
+    ghost most: { ceiling ≤ 1099511627775 };
+
+    ghost sixteen: { (bank : Self) → length (counts bank) ≡ 16 };
+
+    ghost within: { (bank : Self) → Within ceiling (counts bank) };
 }

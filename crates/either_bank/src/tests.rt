@@ -56,15 +56,14 @@ fn made<B: Bank>(bank: &mut B, call: Call) -> Result<Counts, Fault> {
 }
 
 fn told<B: Bank>(bank: &mut B, call: Call) -> Answer {
-    match made(bank, call) {
-        Ok(counts) => Ok((counts.uplink, counts.downlink)),
-        Err(fault) => Err(fault.code.number()),
-    }
+    made(bank, call)
+        .map(|counts| (counts.uplink, counts.downlink))
+        .map_err(|fault| fault.code.number())
 }
 
 fn answers<B: Bank>(rt: &impl Abort, bank: &mut B, calls: &[(Call, Answer)]) {
-    for (call, expected) in calls {
-        assert_eq!(rt; told(bank, *call), *expected);
+    for &(call, expected) in calls {
+        assert_eq!(rt; told(bank, call), expected);
     }
 }
 

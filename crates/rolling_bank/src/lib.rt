@@ -4,12 +4,12 @@
 #![tactic(auto)]
 
 ghost use Rattle.std.specs.Prelude.{◌≡◌, ◌+◌, ◌*◌, ◌<◌, ◌++◌, length, is_ok, if◌then◌else◌, slice_index};
-ghost use Rattle.std.proofs.Common.{lit≤};
+ghost use Rattle.std.proofs.Common.{arith, lit≤};
+ghost use Rattle.bank.proofs.Places.{length-places, within_places};
 ghost use Rattle.bank.specs.Calls.{added, taken_out};
 ghost use Rattle.bank.specs.Meaning.{empty};
 ghost use Rattle.bank.specs.Stores.{Accepted, checked};
 ghost use Rattle.rolling_bank.specs.Rolling.{advanced, count_at, counters, counts_of, marked, meant};
-ghost use Rattle.rolling_bank.specs.Owed.{sixteen_counts, within_ceiling};
 
 use bank::{Bank, Counts, UPLINK, slot, store};
 use fault::{Code, Fault};
@@ -19,6 +19,8 @@ use fault::{Code, Fault};
 #[derive(Drop)]
 pub struct RollingBank<'a> {
     words: &'a mut [u32; 64],
+    // The length of the array: its type does not tell an answer, where the array stands behind a field.
+    ghost all: { length words.now ≡ 64 },
 }
 
 impl<'a> RollingBank<'a> {
@@ -37,33 +39,31 @@ impl<'a> RollingBank<'a> {
     }
 
     /// A new bank: each mark is set to its counter, and the counters stay.
+    #[tactic(auto, using(crate::proofs::Marks::twice_empty))]
     pub fn new(words: &'a mut [u32; 64]) -> RollingBank<'a>
         ensures marked { result.words.now ≡ counters words.old ++ counters words.old }
         ensures zero { meant result.words.now ≡ empty }
         ensures lent { result.words.ghost_name ≡ words.entry.ghost_name }
     {
-        for slot in 0..32 {
-            words[32 + slot] = words[slot];
-        }
+        let (counters, marks) = words.split_at_mut(32);
+        marks.copy_from_slice(counters);
         RollingBank { words }
     }
 }
 
-// How far a counter has gone past its mark; and that both words are there, since a field of array type does not tell.
+// How far a counter has gone past its mark, which is a number of 32 bits.
 fn count(words: &[u32; 64], slot: usize) -> u64
     requires { slot < 32 }
     ensures value { result ≡ count_at words.now slot }
-    ensures there { 32 + slot < length words.now }
     ensures mark { slice_index words.now (32 + slot) < 4294967296 }
 {
-    words[slot].wrapping_sub(words[32 + slot]) as u64
+    u64::from(words[slot].wrapping_sub(words[32 + slot]))
 }
 
 // The counts of two counters, an uplink and the downlink behind it.
 fn counts(words: &[u32; 64], slot: usize) -> Counts
     requires { slot + 1 < 32 }
-    ensures value { result ≡ counts_of words.now slot }
-    ensures there { 33 + slot < length words.now }
+    ensures { result ≡ counts_of words.now slot }
 {
     Counts {
         uplink: count(words, slot),
@@ -78,14 +78,6 @@ impl<'a> Bank for RollingBank<'a> {
 
     ghost counts = { λ b. meant b.words.now };
 
-    ghost least = { lit≤ tt };
-
-    ghost most = { lit≤ tt };
-
-    ghost sixteen = { λ b. sixteen_counts b.words.now };
-
-    ghost within = { λ b. within_ceiling b.words.now };
-
     fn top() -> u64
         ensures { result ≡ 4294967295 }
     {
@@ -93,6 +85,7 @@ impl<'a> Bank for RollingBank<'a> {
     }
 
     // One counter goes on, modulo 2^32; no mark moves.
+    #[tactic(auto, using(bank::proofs::Steps::add_past, bank::proofs::Steps::count_found, crate::proofs::Writes::raises))]
     fn add(&mut self, place: usize, direction: u64, octets: u64) -> Result<(), Fault>
         ensures leaves { meant self.new.words.now ≡ (added 4294967295 (meant self.old.words.now) place direction octets).0 }
         ensures answers { result ≡ (added 4294967295 (meant self.old.words.now) place direction octets).1 }
@@ -109,6 +102,7 @@ impl<'a> Bank for RollingBank<'a> {
     }
 
     // Two marks are moved to their counters; no counter moves.
+    #[tactic(auto, using(bank::proofs::Places::at_places, crate::proofs::Writes::moved, crate::proofs::Writes::counters_stay, crate::proofs::Writes::clears))]
     fn take_out(&mut self, place: usize) -> Result<Counts, Fault>
         ensures leaves { meant self.new.words.now ≡ (taken_out (meant self.old.words.now) place).0 }
         ensures answers { result ≡ (taken_out (meant self.old.words.now) place).1 }
@@ -123,8 +117,17 @@ impl<'a> Bank for RollingBank<'a> {
         Ok(taken)
     }
 
+    #[tactic(auto, using(bank::proofs::Steps::read_finds))]
     fn read(&self, place: usize) -> Result<Counts, Fault> {
         let slot = slot(place, UPLINK)?;
         Ok(counts(self.words, slot))
     }
+
+    ghost least = { lit≤ tt };
+
+    ghost most = { lit≤ tt };
+
+    ghost sixteen = { λ b. length-places (count_at b.words.now) };
+
+    ghost within = { λ b. within_places 4294967295 (count_at b.words.now) (λ k. Prim.omega arith) };
 }

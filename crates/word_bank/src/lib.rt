@@ -2,12 +2,12 @@
 
 #![tactic(auto)]
 
-ghost use Rattle.std.specs.Prelude.{◌≡◌, ◌+◌, ◌<◌, length, replicate};
+ghost use Rattle.std.specs.Prelude.{◌≡◌, ℕ, ◌+◌, ◌<◌, ◌≤◌, length, replicate, slice_index};
 ghost use Rattle.std.proofs.Common.{lit≤};
+ghost use Rattle.bank.proofs.Places.{length-places, within_places};
 ghost use Rattle.bank.specs.Meaning.{empty};
 ghost use Rattle.bank.specs.Stores.{Accepted, checked};
-ghost use Rattle.word_bank.specs.Words.{count_at, counts_of, meant};
-ghost use Rattle.word_bank.specs.Owed.{sixteen_counts, within_ceiling};
+ghost use Rattle.word_bank.specs.Words.{counts_of, meant};
 
 use bank::{Bank, Counts, UPLINK, slot, store};
 use fault::{Code, Fault};
@@ -16,6 +16,10 @@ use fault::{Code, Fault};
 #[derive(Drop)]
 pub struct WordBank<'a> {
     words: &'a mut [u64; 32],
+    // The length of the array: its type does not tell an answer, where the array stands behind a field.
+    ghost all: { length words.now ≡ 32 },
+    // No word is above the ceiling.
+    ghost low: { (slot : ℕ) → slice_index words.now slot ≤ 1099511627775 },
 }
 
 impl<'a> WordBank<'a> {
@@ -34,6 +38,7 @@ impl<'a> WordBank<'a> {
     }
 
     /// A new bank: every word is cleared.
+    #[tactic(auto, using(crate::proofs::Writes::cleared))]
     pub fn new(words: &'a mut [u64; 32]) -> WordBank<'a>
         ensures cleared { result.words.now ≡ replicate 32 0 }
         ensures zero { meant result.words.now ≡ empty }
@@ -44,24 +49,14 @@ impl<'a> WordBank<'a> {
     }
 }
 
-// What a word counts, whatever it holds; and that there is such a word, since a field of array type does not tell.
-fn count(words: &[u64; 32], slot: usize) -> u64
-    requires { slot < 32 }
-    ensures value { result ≡ count_at words.now slot }
-    ensures there { slot < length words.now }
-{
-    words[slot].min(WordBank::CEILING)
-}
-
 // What two words count, an uplink and the downlink behind it.
 fn counts(words: &[u64; 32], slot: usize) -> Counts
     requires { slot + 1 < 32 }
-    ensures value { result ≡ counts_of words.now slot }
-    ensures there { slot + 1 < length words.now }
+    ensures { result ≡ counts_of words.now slot }
 {
     Counts {
-        uplink: count(words, slot),
-        downlink: count(words, slot + 1),
+        uplink: words[slot],
+        downlink: words[slot + 1],
     }
 }
 
@@ -72,30 +67,23 @@ impl<'a> Bank for WordBank<'a> {
 
     ghost counts = { λ b. meant b.words.now };
 
-    ghost least = { lit≤ tt };
-
-    ghost most = { lit≤ tt };
-
-    ghost sixteen = { λ b. sixteen_counts b.words.now };
-
-    ghost within = { λ b. within_ceiling b.words.now };
-
     fn top() -> u64
         ensures { result ≡ 1099511627775 }
     {
         Self::CEILING
     }
 
+    #[tactic(auto, using(bank::proofs::Steps::add_past, bank::proofs::Steps::count_found, crate::proofs::Writes::raises))]
     fn add(&mut self, place: usize, direction: u64, octets: u64) -> Result<(), Fault> {
         let slot = slot(place, direction)?;
-        let had = count(self.words, slot);
-        if octets > Self::CEILING - had {
+        if octets > Self::CEILING - self.words[slot] {
             return Err(Fault::call(Code::Ceiling, 0));
         }
-        self.words[slot] = had + octets;
+        self.words[slot] += octets;
         Ok(())
     }
 
+    #[tactic(auto, using(bank::proofs::Places::at_places, crate::proofs::Writes::clears))]
     fn take_out(&mut self, place: usize) -> Result<Counts, Fault> {
         let slot = slot(place, UPLINK)?;
         let taken = counts(self.words, slot);
@@ -104,8 +92,17 @@ impl<'a> Bank for WordBank<'a> {
         Ok(taken)
     }
 
+    #[tactic(auto, using(bank::proofs::Steps::read_finds))]
     fn read(&self, place: usize) -> Result<Counts, Fault> {
         let slot = slot(place, UPLINK)?;
         Ok(counts(self.words, slot))
     }
+
+    ghost least = { lit≤ tt };
+
+    ghost most = { lit≤ tt };
+
+    ghost sixteen = { λ b. length-places (slice_index b.words.now) };
+
+    ghost within = { λ b. within_places 1099511627775 (slice_index b.words.now) b.low };
 }
