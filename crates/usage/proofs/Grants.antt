@@ -13,7 +13,7 @@ use Rattle.units.specs.declared.values.Units.{Units}
 use Rattle.information.specs.declared.values.CommandGroup.{CommandGroup}
 use Rattle.information.specs.declared.values.Order.{Order}
 use Rattle.information.specs.declared.values.Order.TheVariants.{Grant, Disable, Request}
-use Rattle.trip.proofs.Keys.{same_key_lem}
+use Rattle.trip.specs.Laws.Keys.{same_key_lem}
 use Rattle.bank.specs.declared.counts.Counts.{Counts}
 use Rattle.usage.specs.declared.values.Place.{Place}
 use Rattle.usage.specs.Forms.{clamped, same_form}

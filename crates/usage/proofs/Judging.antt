@@ -9,7 +9,7 @@ use Rattle.usage.specs.declared.values.Reason.{Reason}
 use Rattle.usage.specs.declared.values.Reason.TheVariants as reason
 use Rattle.usage.specs.declared.values.Sent.{Sent}
 use Rattle.usage.specs.Forms.{clamped, met, same_form}
-use Rattle.usage.specs.Slots.{closing, due, has_reason, in_report, judged, reached_if, with_reason}
+use Rattle.usage.specs.Slots.{closing, due, in_report, judged, reached_if, with_reason}
 use Rattle.usage.proofs.Inv.{Covered, Low, Noted, PlaceOk}
 
 -- FORMS
@@ -53,7 +53,7 @@ none_covered (Both u v) c h = tt
 -- REASONS
 
 -- a reason that is there, and closes what was closing
-pub reasoned : (ceiling : ℕ) (p : Place) (c : Counts) (r : Reason) → has_reason r ≡ true → (closing p.reason ≡ true → closing r ≡ true) → PlaceOk ceiling p c → PlaceOk ceiling (with_reason p r) c
+pub reasoned : (ceiling : ℕ) (p : Place) (c : Counts) (r : Option Reason) → is_some r ≡ true → (closing p.reason ≡ true → closing r ≡ true) → PlaceOk ceiling p c → PlaceOk ceiling (with_reason p r) c
 reasoned ceiling p c r is shuts ok =
     record {
       covered = ok.covered;
@@ -62,13 +62,13 @@ reasoned ceiling p c r is shuts ok =
       noted = λ x e n. let h = ok.noted x e n in record { shut = shuts h.shut; none = h.none };
     }
 
-reached_due : (b : Bool) (r : Reason) → b ≡ true → has_reason (reached_if b r) ≡ true
-reached_due true reason.None e = refl
-reached_due true reason.Reached e = refl
-reached_due true reason.Requested e = refl
-reached_due true reason.Removed e = refl
-reached_due true reason.Disabled e = refl
-reached_due true reason.Ended e = refl
+reached_due : (b : Bool) (r : Option Reason) → b ≡ true → is_some (reached_if b r) ≡ true
+reached_due true None e = refl
+reached_due true (Some reason.Reached) e = refl
+reached_due true (Some reason.Requested) e = refl
+reached_due true (Some reason.Removed) e = refl
+reached_due true (Some reason.Disabled) e = refl
+reached_due true (Some reason.Ended) e = refl
 reached_due false r e = absurd (false≢true e)
 
 -- what is judged is noticed

@@ -1,5 +1,5 @@
 -- Calls that count and report nothing: install, remove, command, terminate. Assumes nothing.
-use Rattle.std.proofs.Common.{◌≡◌, ℕ, Bool, true, false, cond, not, ◌&&◌, List, [], ◌∷◌, map, Some, None, Option, sym, refl, ap, ◌∙◌}
+use Rattle.std.proofs.Common.{◌≡◌, ℕ, Bool, true, false, cond, not, ◌&&◌, List, [], ◌∷◌, map, is_some, Some, None, Option, sym, refl, ap, ◌∙◌}
 use Rattle.std.specs.List.{AllByRecursion}
 use Rattle.std.proofs.ByRecursion.{All-weaker}
 use Rattle.std.proofs.lemmas.Bool.{false≢true}
@@ -11,7 +11,7 @@ use Rattle.usage.specs.declared.values.Reason.TheVariants as reason
 use Rattle.usage.specs.declared.values.Rule.{Rule}
 use Rattle.usage.specs.declared.values.Sent.{Sent}
 use Rattle.usage.specs.Tables.{any, at_first}
-use Rattle.usage.specs.Slots.{Slot, changed, changed_in, closing, counts, has_key, has_reason, holds, is_session, with_reason}
+use Rattle.usage.specs.Slots.{Slot, changed, changed_in, closing, counts, has_key, holds, is_session, with_reason}
 use Rattle.usage.specs.Rules.{after_rule, carries, unruled}
 use Rattle.usage.specs.Orders.{disabled, requested, requested_if}
 use Rattle.usage.specs.Reports.{group_sent, sent_at}
@@ -73,52 +73,44 @@ module _ (ceiling : ℕ) where
   unruled_ok : (p : Place) (c : Counts) → PlaceOk ceiling p c → PlaceOk ceiling (unruled p) c
   unruled_ok p c ok = go (not (is_session p.level) && counts p)
     where
-      go : (b : Bool) → PlaceOk ceiling (cond b (with_reason p reason.Removed) p) c
-      go true = reasoned ceiling p c reason.Removed refl (λ _. refl) ok
+      go : (b : Bool) → PlaceOk ceiling (cond b (with_reason p (Some reason.Removed)) p) c
+      go true = reasoned ceiling p c (Some reason.Removed) refl (λ _. refl) ok
       go false = ok
 
   unruled_alike : (p : Place) → Alike p (unruled p)
   unruled_alike p = go (not (is_session p.level) && counts p)
     where
-      go : (b : Bool) → Alike p (cond b (with_reason p reason.Removed) p)
+      go : (b : Bool) → Alike p (cond b (with_reason p (Some reason.Removed)) p)
       go true = record { key = refl; level = refl; sent = refl }
       go false = record { key = refl; level = refl; sent = refl }
 
   over_ok : (p : Place) (c : Counts) → PlaceOk ceiling p c → PlaceOk ceiling (over p) c
   over_ok p c ok = go (closing p.reason)
     where
-      go : (b : Bool) → PlaceOk ceiling (cond b p (with_reason p reason.Ended)) c
+      go : (b : Bool) → PlaceOk ceiling (cond b p (with_reason p (Some reason.Ended))) c
       go true = ok
-      go false = reasoned ceiling p c reason.Ended refl (λ _. refl) ok
+      go false = reasoned ceiling p c (Some reason.Ended) refl (λ _. refl) ok
 
   over_alike : (p : Place) → Alike p (over p)
   over_alike p = go (closing p.reason)
     where
-      go : (b : Bool) → Alike p (cond b p (with_reason p reason.Ended))
+      go : (b : Bool) → Alike p (cond b p (with_reason p (Some reason.Ended)))
       go true = record { key = refl; level = refl; sent = refl }
       go false = record { key = refl; level = refl; sent = refl }
 
-  requested_reason : (r : Reason) → has_reason (requested_if r) ≡ true
-  requested_reason reason.None = refl
-  requested_reason reason.Reached = refl
-  requested_reason reason.Requested = refl
-  requested_reason reason.Removed = refl
-  requested_reason reason.Disabled = refl
-  requested_reason reason.Ended = refl
+  requested_reason : (r : Option Reason) → is_some (requested_if r) ≡ true
+  requested_reason None = refl
+  requested_reason (Some r) = refl
 
-  requested_closing : (r : Reason) → closing r ≡ true → closing (requested_if r) ≡ true
-  requested_closing reason.None e = absurd (false≢true e)
-  requested_closing reason.Reached e = absurd (false≢true e)
-  requested_closing reason.Requested e = absurd (false≢true e)
-  requested_closing reason.Removed e = e
-  requested_closing reason.Disabled e = e
-  requested_closing reason.Ended e = e
+  requested_closing : (r : Option Reason) → closing r ≡ true → closing (requested_if r) ≡ true
+  requested_closing None e = absurd (false≢true e)
+  requested_closing (Some r) e = e
 
   pub requested_ok : (p : Place) (c : Counts) → PlaceOk ceiling p c → PlaceOk ceiling (requested p) c
   requested_ok p c ok = reasoned ceiling p c (requested_if p.reason) (requested_reason p.reason) (requested_closing p.reason) ok
 
   pub disabled_ok : (p : Place) (c : Counts) → PlaceOk ceiling p c → PlaceOk ceiling (disabled p) c
-  disabled_ok p c ok = reasoned ceiling p c reason.Disabled refl (λ _. refl) ok
+  disabled_ok p c ok = reasoned ceiling p c (Some reason.Disabled) refl (λ _. refl) ok
 
   -- REMOVE AND TERMINATE
 

@@ -10,7 +10,6 @@ use Rattle.bank.specs.declared.counts.Counts.{Counts}
 use Rattle.bank.specs.Meaning.{none as nothing}
 use Rattle.usage.specs.declared.values.Place.{Place}
 use Rattle.usage.specs.declared.values.Reason.{Reason}
-use Rattle.usage.specs.declared.values.Reason.TheVariants as reason
 use Rattle.usage.specs.declared.values.Sent.{Sent}
 use Rattle.usage.specs.Forms.{octets_in, used_in}
 use Rattle.usage.specs.Slots.{Slot, changed_in, closing, due, has_key, holds, octets_at, passes}
@@ -27,8 +26,8 @@ used_octets (Uplink u) c h = omega arith
 used_octets (Downlink v) c h = omega arith
 used_octets (Both u v) c h = refl
 
-still_closing_lem : (r : Reason) → closing r ≡ true → closing (still_closing r) ≡ true
-still_closing_lem r e = ap (λ b. closing (cond b r reason.None)) e ∙ e
+still_closing_lem : (r : Option Reason) → closing r ≡ true → closing (still_closing r) ≡ true
+still_closing_lem r e = ap (λ b. closing (cond b r None)) e ∙ e
 
 abbrev closing_in : Option Sent → Bool
 closing_in None = false

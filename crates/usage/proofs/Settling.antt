@@ -11,7 +11,7 @@ use Rattle.key.specs.declared.key.Key.{Key}
 use Rattle.key.specs.Keys.{same_key}
 use Rattle.units.specs.declared.values.Units.{Units}
 use Rattle.information.specs.declared.values.AnswerGroup.{AnswerGroup}
-use Rattle.trip.proofs.Keys.{same_key_lem}
+use Rattle.trip.specs.Laws.Keys.{same_key_lem}
 use Rattle.usage.specs.declared.values.Place.{Place}
 use Rattle.usage.specs.declared.values.Sent.{Sent}
 use Rattle.usage.specs.Forms.{clamped, same_form}

@@ -11,7 +11,7 @@ use Rattle.information.specs.declared.values.ReportGroup.{ReportGroup}
 use Rattle.message.specs.Numbered.{Message, read_answer, read_report}
 use Rattle.wire.specs.Octets.{report_data, report_octets}
 use Rattle.trip.specs.Back.{located, report_at}
-use Rattle.trip.proofs.Keys.{same_key_lem}
+use Rattle.trip.specs.Laws.Keys.{same_key_lem}
 use Rattle.usage.specs.declared.values.Account.{Account}
 use Rattle.usage.specs.Tables.{tally}
 use Rattle.usage.specs.Slots.{Slot, has_key, holds, octets_at}

@@ -24,7 +24,7 @@ abbrev pub counts_session : Place → Bool
 counts_session p = is_session p.level && counts p
 
 abbrev pub new_place : Key → Level → Units → Place
-new_place k l u = record { key = k; level = l; thresholds = u; reason = reason.None; sent = None }
+new_place k l u = record { key = k; level = l; thresholds = u; reason = None; sent = None }
 
 abbrev pub given : Place → Slot → Slot
 given p s = judged_at (record { place = Some p; counts = s.counts })
@@ -57,15 +57,11 @@ named ss at k f None = Err (call_fault code.UnknownKey at)
 named ss at k f (Some p) = cond (closing p.reason) (Err (call_fault code.Closing at)) (Ok (at_first (holds (has_key k)) (changed f) ss))
 
 abbrev pub disabled : Place → Place
-disabled p = with_reason p reason.Disabled
+disabled p = with_reason p (Some reason.Disabled)
 
-abbrev pub requested_if : Reason → Reason
-requested_if reason.None = reason.Requested
-requested_if reason.Reached = reason.Reached
-requested_if reason.Requested = reason.Requested
-requested_if reason.Removed = reason.Removed
-requested_if reason.Disabled = reason.Disabled
-requested_if reason.Ended = reason.Ended
+abbrev pub requested_if : Option Reason → Option Reason
+requested_if None = Some reason.Requested
+requested_if (Some r) = Some r
 
 abbrev pub requested : Place → Place
 requested p = with_reason p (requested_if p.reason)

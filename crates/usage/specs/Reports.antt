@@ -13,7 +13,6 @@ use Rattle.bank.specs.declared.counts.Counts.{Counts}
 use Rattle.bank.specs.Meaning.{none as nothing}
 use Rattle.usage.specs.declared.values.Place.{Place}
 use Rattle.usage.specs.declared.values.Reason.{Reason}
-use Rattle.usage.specs.declared.values.Reason.TheVariants as reason
 use Rattle.usage.specs.declared.values.Sent.{Sent}
 use Rattle.usage.specs.Forms.{used_in}
 use Rattle.usage.specs.Tables.{any, gathered}
@@ -48,8 +47,8 @@ abbrev pub sent_of : Place → Counts → Sent
 sent_of p c = record { used = used_in p.thresholds c; closing = closing p.reason }
 
 -- a reason that is not closing becomes none
-abbrev pub still_closing : Reason → Reason
-still_closing r = cond (closing r) r reason.None
+abbrev pub still_closing : Option Reason → Option Reason
+still_closing r = cond (closing r) r None
 
 abbrev pub sent : Counts → Place → Place
 sent c p = record { key = p.key; level = p.level; thresholds = p.thresholds; reason = still_closing p.reason; sent = Some (sent_of p c) }

@@ -53,7 +53,7 @@ install m n ks =
 
 -- a key that counts at rule level closes when its last rule goes
 abbrev pub unruled : Place → Place
-unruled p = cond (not (is_session p.level) && counts p) (with_reason p reason.Removed) p
+unruled p = cond (not (is_session p.level) && counts p) (with_reason p (Some reason.Removed)) p
 
 abbrev pub after_rule : Option Key → List (Option Rule) → List Slot → List Slot
 after_rule None others ss = ss

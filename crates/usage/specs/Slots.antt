@@ -26,34 +26,26 @@ octets_at s = s.counts.uplink + s.counts.downlink
 
 -- REASONS
 
-abbrev pub closing : Reason → Bool
-closing reason.None = false
-closing reason.Reached = false
-closing reason.Requested = false
-closing reason.Removed = true
-closing reason.Disabled = true
-closing reason.Ended = true
+abbrev pub closing : Option Reason → Bool
+closing None = false
+closing (Some reason.Reached) = false
+closing (Some reason.Requested) = false
+closing (Some reason.Removed) = true
+closing (Some reason.Disabled) = true
+closing (Some reason.Ended) = true
 
 -- a place counts unless it is closing
 abbrev pub counts : Place → Bool
 counts p = not (closing p.reason)
 
-abbrev pub has_reason : Reason → Bool
-has_reason reason.None = false
-has_reason reason.Reached = true
-has_reason reason.Requested = true
-has_reason reason.Removed = true
-has_reason reason.Disabled = true
-has_reason reason.Ended = true
-
 -- a key is due while its place has a reason
 abbrev pub due : Place → Bool
-due p = has_reason p.reason
+due p = is_some p.reason
 
 abbrev pub in_report : Place → Bool
 in_report p = is_some p.sent
 
-abbrev pub with_reason : Place → Reason → Place
+abbrev pub with_reason : Place → Option Reason → Place
 with_reason p r = record { key = p.key; level = p.level; thresholds = p.thresholds; reason = r; sent = p.sent }
 
 -- with new thresholds, outside the unanswered report
@@ -63,13 +55,13 @@ going_on p u = record { key = p.key; level = p.level; thresholds = u; reason = p
 -- REACHED
 
 -- none turns into reached where the thresholds are met, and reached back into none where they are not
-abbrev pub reached_if : Bool → Reason → Reason
-reached_if m reason.None = cond m reason.Reached reason.None
-reached_if m reason.Reached = cond m reason.Reached reason.None
-reached_if m reason.Requested = reason.Requested
-reached_if m reason.Removed = reason.Removed
-reached_if m reason.Disabled = reason.Disabled
-reached_if m reason.Ended = reason.Ended
+abbrev pub reached_if : Bool → Option Reason → Option Reason
+reached_if m None = cond m (Some reason.Reached) None
+reached_if m (Some reason.Reached) = cond m (Some reason.Reached) None
+reached_if m (Some reason.Requested) = Some reason.Requested
+reached_if m (Some reason.Removed) = Some reason.Removed
+reached_if m (Some reason.Disabled) = Some reason.Disabled
+reached_if m (Some reason.Ended) = Some reason.Ended
 
 -- a place in the unanswered report is not judged
 abbrev pub judged : Counts → Place → Place

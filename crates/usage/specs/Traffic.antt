@@ -41,7 +41,7 @@ traffic ceiling m n d x =
     (carried ceiling m (rule_of n m.rules) d x))
 
 abbrev pub over : Place → Place
-over p = cond (closing p.reason) p (with_reason p reason.Ended)
+over p = cond (closing p.reason) p (with_reason p (Some reason.Ended))
 
 abbrev pub terminate : Meter → Meter × Result (Unit {0}) Fault
 terminate m =

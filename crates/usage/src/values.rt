@@ -2,9 +2,8 @@ use key::Key;
 use units::{Level, Units};
 
 /// Why a key's octets are to be reported. The last three close its place, which then counts no more.
-#[derive(Clone, Copy, Debug)]
+#[derive(Clone, Copy, Debug, PartialEq, Eq)]
 pub enum Reason {
-    None,
     Reached,
     Requested,
     Removed,
@@ -28,7 +27,8 @@ pub struct Place {
     pub level: Level,
     /// Their form is the key's form.
     pub thresholds: Units,
-    pub reason: Reason,
+    /// Why the key is due, if it is.
+    pub reason: Option<Reason>,
     /// What stands of it in the unanswered report, if it stands there.
     pub sent: Option<Sent>,
 }
@@ -41,7 +41,7 @@ pub struct Rule {
 }
 
 /// How the next threshold follows from what remains.
-#[derive(Clone, Copy, Debug)]
+#[derive(Clone, Copy, Debug, PartialEq, Eq)]
 pub enum Plan {
     /// So many octets at a time.
     Step(u64),

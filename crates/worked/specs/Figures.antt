@@ -56,11 +56,11 @@ begun u = (commanded ceiling (install new_meter 1 (Some octets)).0 (Ok (granted 
 abbrev pub packet : Meter → ℕ → ℕ → Meter
 packet m d x = (traffic ceiling m 1 d x).0
 
-abbrev pub reason_in : Option Place → Option Reason
+abbrev pub reason_in : Option Place → Option (Option Reason)
 reason_in None = None
 reason_in (Some p) = Some p.reason
 
-abbrev pub reason_of : Meter → Option Reason
+abbrev pub reason_of : Meter → Option (Option Reason)
 reason_of m = reason_in (place_of key m.slots)
 
 -- a key that was reported, and has so many octets pending since
@@ -128,14 +128,14 @@ Shown RequestAll = read_command (asking 0) ≡ Ok (record { place = 0; order = R
 Shown RequestRefused = read_command (asking 1) ≡ Err (message_fault code.Range 12)
 -- total 100 with uplink 60 and downlink 39 has no reason; one octet more, and it is reached
 Shown TotalReached =
-    (reason_of (packet (packet (begun (Total 100)) 0 60) 1 39) ≡ Some reason.None)
-    × (reason_of (packet (packet (packet (begun (Total 100)) 0 60) 1 39) 1 1) ≡ Some reason.Reached)
+    (reason_of (packet (packet (begun (Total 100)) 0 60) 1 39) ≡ Some None)
+    × (reason_of (packet (packet (packet (begun (Total 100)) 0 60) 1 39) 1 1) ≡ Some (Some reason.Reached))
 -- uplink 100 alone: 65,535 downlink octets count nothing
 Shown UplinkAlone = ((traffic ceiling (begun (Uplink 100)) 1 1 65535).1 ≡ Ok 0) × (packet (begun (Uplink 100)) 1 65535 ≡ begun (Uplink 100))
 -- an answered threshold of 50 with 50 pending is reached; with 49 it has no reason
 Shown Answered =
-    (reason_of (afterwards (pending 50) (Some (Total 50))) ≡ Some reason.Reached)
-    × (reason_of (afterwards (pending 49) (Some (Total 50))) ≡ Some reason.None)
+    (reason_of (afterwards (pending 50) (Some (Total 50))) ≡ Some (Some reason.Reached))
+    × (reason_of (afterwards (pending 49) (Some (Total 50))) ≡ Some None)
 -- a stop with 30 pending returns 30 and frees the place
 Shown Stopped =
     (discarded_octets (answered ceiling (pending 30) (Ok (answer None))).1 ≡ Ok 30)
