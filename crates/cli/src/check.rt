@@ -1,24 +1,18 @@
 //! `gx check`: each line of standard input is judged, and the answers are counted.
-use crate::answer::{refuse, request_of};
+use crate::answer::{each_message, refuse, request_of};
 use crate::tally::{Outcome, Tally};
 use std::alloc::Global;
 use std::io;
-use std::io::{BufRead, BufReader, BufWriter, Write};
-use words::{is_skipped, without_return};
+use std::io::{BufWriter, Write};
 
 pub(crate) fn check(rt: &HostRuntime) -> io::Result<()> {
     let heap = rt.alloc();
     let mut out = BufWriter::new(heap, rt.stdout())?;
-    let mut tally = Tally::new();
-    let mut number: u64 = 0;
-    for line in BufReader::new(heap, rt.stdin())?.split(heap, b'\n') {
-        let line = line?;
-        number = number.saturating_add(1);
-        let text = without_return(line.as_slice());
-        if !is_skipped(text) {
-            tally.add(answer(&mut out, heap, number, text)?);
-        }
-    }
+    let mut tally = Tally::default();
+    each_message(rt, |number, line| {
+        tally.add(answer(&mut out, heap, number, line)?);
+        Ok(())
+    })?;
     writeln!(out, "{tally}")?;
     out.flush()
 }

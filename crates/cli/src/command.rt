@@ -4,6 +4,7 @@ ghost use Rattle.cli.specs.Words.{command_of};
 use crate::check::check;
 use crate::usage::USAGE;
 use std::io;
+use std::process::ExitCode;
 
 /// What the program is asked to do.
 #[derive(Clone, Copy)]
@@ -28,19 +29,19 @@ impl Command {
         }
     }
 
-    /// Runs the command on the standard streams.
-    pub fn run(self, rt: &HostRuntime) -> io::Result<()> {
+    /// Runs the command on the standard streams, and answers the status of the process.
+    pub fn run(self, rt: &HostRuntime) -> io::Result<ExitCode> {
         match self {
-            Command::Check => check(rt),
-            Command::Help => rt.print(USAGE),
-            Command::Unknown => unknown(rt),
+            Command::Check => check(rt)?,
+            Command::Help => rt.print(USAGE)?,
+            Command::Unknown => return unknown(rt),
         }
+        Ok(ExitCode::SUCCESS)
     }
 }
 
-// The error gives the process a status that a script can test.
-fn unknown(rt: &HostRuntime) -> io::Result<()> {
+fn unknown(rt: &HostRuntime) -> io::Result<ExitCode> {
     rt.eprintln("gx: there is no such command")?;
     rt.print(USAGE)?;
-    Err(io::Error::from(io::ErrorKind::InvalidInput))
+    Ok(ExitCode::FAILURE)
 }

@@ -7,18 +7,18 @@ ghost use Rattle.wire.specs.Sound.{afterwards, outcome};
 ghost use Rattle.cli.specs.Octets.{message_read, message_octets};
 
 use fault::Fault;
-use message::{Kind, read_answer, read_command, read_report};
+use message::{Answer, Command, Kind, Report};
 use text::Message;
-use trip::{write_answer, write_command, write_report};
+use trip::{write_command, write_numbered};
 
 /// The message of this kind that the octets are.
 pub fn read_message(kind: Kind, octets: &[u8]) -> Result<Message, Fault>
     ensures { meaning meant result ≡ message_read kind octets.now }
 {
     match kind {
-        Kind::Report => Ok(Message::Report(read_report(octets)?)),
-        Kind::Answer => Ok(Message::Answer(read_answer(octets)?)),
-        Kind::Command => Ok(Message::Command(read_command(octets)?)),
+        Kind::Report => Ok(Message::Report(Report::read(octets)?)),
+        Kind::Answer => Ok(Message::Answer(Answer::read(octets)?)),
+        Kind::Command => Ok(Message::Command(Command::read(octets)?)),
     }
 }
 
@@ -28,8 +28,8 @@ pub fn write_message(out: &mut [u8], message: &Message) -> Result<usize, Fault>
     ensures after { out.new ≡ afterwards (told_fault (meant message.now)) (message_octets (meant message.now)) out.old }
 {
     match message {
-        Message::Report(report) => write_report(out, report),
-        Message::Answer(answer) => write_answer(out, answer),
+        Message::Report(report) => write_numbered(out, report),
+        Message::Answer(answer) => write_numbered(out, answer),
         Message::Command(command) => write_command(out, command),
     }
 }

@@ -12,7 +12,7 @@ pub(crate) enum Outcome {
 }
 
 /// How many messages came to what.
-#[derive(Clone, Copy)]
+#[derive(Clone, Copy, Default)]
 pub(crate) struct Tally {
     pub(crate) sound: u64,
     pub(crate) refused: u64,
@@ -20,14 +20,6 @@ pub(crate) struct Tally {
 }
 
 impl Tally {
-    pub(crate) fn new() -> Tally {
-        Tally {
-            sound: 0,
-            refused: 0,
-            errors: 0,
-        }
-    }
-
     pub(crate) fn add(&mut self, outcome: Outcome)
         ensures { self.new ≡ counted self.old outcome }
     {

@@ -4,6 +4,7 @@ ghost use Rattle.cli.specs.Words.{text_command_of};
 use crate::show::show;
 use crate::write::write;
 use std::io;
+use std::process::ExitCode;
 
 /// What the program is asked to do with texts of messages.
 #[derive(Clone, Copy)]
@@ -26,10 +27,13 @@ impl TextCommand {
         }
     }
 
-    /// Runs the command on the standard streams.
-    pub fn run(self, rt: &HostRuntime) -> io::Result<()> {
+    /// Runs the command on the standard streams, and answers the status of the process.
+    pub fn run(self, rt: &HostRuntime) -> io::Result<ExitCode> {
         match self {
-            TextCommand::Show => show(rt),
+            TextCommand::Show => {
+                show(rt)?;
+                Ok(ExitCode::SUCCESS)
+            }
             TextCommand::Write => write(rt),
         }
     }

@@ -1,6 +1,7 @@
 //! `gx write`: the octets of one message's text.
 use crate::octets::write_message;
 use std::io::{BufRead, BufReader};
+use std::process::ExitCode;
 use std::{fmt, io};
 use text::{Message, Reading};
 use words::Expected;
@@ -20,41 +21,58 @@ impl fmt::Display for TextFault {
     }
 }
 
-// The error gives the process a status that a script can test.
-pub(crate) fn write(rt: &HostRuntime) -> io::Result<()> {
-    match read(rt)? {
-        Ok(message) => print(rt, &message),
-        Err(fault) => {
-            rt.eprintln(fault)?;
-            Err(io::Error::from(io::ErrorKind::InvalidInput))
+// Why no message was read: its text is wrong, or the text cannot be read.
+#[derive(Drop)]
+enum ReadError {
+    Text(TextFault),
+    Io(io::Error),
+}
+
+impl From<io::Error> for ReadError {
+    fn from(error: io::Error) -> ReadError {
+        ReadError::Io(error)
+    }
+}
+
+// A text that is wrong gives the process a status that a script can test.
+pub(crate) fn write(rt: &HostRuntime) -> io::Result<ExitCode> {
+    match read(rt) {
+        Ok(message) => {
+            print(rt, &message)?;
+            Ok(ExitCode::SUCCESS)
         }
+        Err(ReadError::Text(fault)) => {
+            rt.eprintln(fault)?;
+            Ok(ExitCode::FAILURE)
+        }
+        Err(ReadError::Io(error)) => Err(error),
     }
 }
 
 // Reads the text on standard input. A text without a message is at fault behind its last line.
-fn read(rt: &HostRuntime) -> io::Result<Result<Message, TextFault>> {
+fn read(rt: &HostRuntime) -> Result<Message, ReadError> {
     let mut reading = Reading::new();
     let mut line: u64 = 1;
     for octets in BufReader::new(rt.alloc(), rt.stdin())?.split(rt.alloc(), b'\n') {
         let octets = octets?;
-        if let Err(expected) = reading.line(octets.as_slice()) {
-            return Ok(Err(TextFault { line, expected }));
-        }
+        reading
+            .line(octets.as_slice())
+            .map_err(|expected| ReadError::Text(TextFault { line, expected }))?;
         line = line.saturating_add(1);
     }
-    match reading.finish() {
-        Ok(message) => Ok(Ok(message)),
-        Err(expected) => Ok(Err(TextFault { line, expected })),
-    }
+    reading
+        .finish()
+        .map_err(|expected| ReadError::Text(TextFault { line, expected }))
 }
 
 // No message has more than 1560 octets.
 fn print(rt: &HostRuntime, message: &Message) -> io::Result<()> {
     let mut octets = [0; 1560];
-    let Ok(length) = write_message(&mut octets, message) else {
-        return Err(io::Error::from(io::ErrorKind::InvalidData));
-    };
-    let mut text = String::new(rt.alloc());
-    hexadecimal::encode(&mut text, octets.split_at(length.min(1560)).0)?;
-    rt.println(text)
+    let written = write_message(&mut octets, message)
+        .ok()
+        .and_then(|length| octets.get(..length));
+    match written {
+        Some(octets) => rt.println(hexadecimal::encode(octets)),
+        None => Err(io::Error::from(io::ErrorKind::InvalidData)),
+    }
 }

@@ -6,7 +6,7 @@
 use anyhow::Context;
 use information::ReportGroup;
 use key::Key;
-use message::{Entry, Groups, Report, read_report};
+use message::{Entry, Groups, Report};
 use std::io;
 use units::{Level, RequestType, Units};
 
@@ -30,14 +30,14 @@ fn group(octets: &[u8], used: Units) -> Option<ReportGroup> {
 
 // A report of one key of four octets, in total form.
 fn lib1() -> Option<Report> {
-    let mut groups = Groups::new(<ReportGroup as message::Entry>::blank());
-    groups.push(group(b"lib1", Units::Total(400))?);
+    let mut groups = Groups::new(ReportGroup::blank());
+    groups.push(group(b"lib1", Units::Total(400))?).ok()?;
     Some(report_of(groups))
 }
 
 // A report of sixteen keys of sixteen octets, in both directions.
 fn largest() -> Option<Report> {
-    let mut groups = Groups::new(<ReportGroup as message::Entry>::blank());
+    let mut groups = Groups::new(ReportGroup::blank());
     for n in 0..16u8 {
         let mut octets = [b'k'; 16];
         octets[0] = n;
@@ -45,24 +45,23 @@ fn largest() -> Option<Report> {
             uplink: 1_099_511_627_775,
             downlink: 0,
         };
-        groups.push(group(&octets, both)?);
+        groups.push(group(&octets, both)?).ok()?;
     }
     Some(report_of(groups))
 }
 
 fn show(rt: &HostRuntime, what: &str, report: &Report, size: usize) -> io::Result<()> {
     let mut octets = [0xa5; 2000];
-    if size > octets.len() {
+    let Some(out) = octets.get_mut(..size) else {
         return Ok(());
-    }
-    let out = &mut octets[0..size];
-    match trip::write_report(out, report) {
+    };
+    match trip::write_numbered(out, report) {
         Ok(length) => {
             let past = out.len().saturating_sub(length);
-            let groups = match read_report(out.split_at(length.min(size)).0) {
-                Ok(back) => back.groups.as_slice().len(),
-                Err(_) => 0,
-            };
+            let back = out
+                .get(..length)
+                .and_then(|octets| Report::read(octets).ok());
+            let groups = back.map_or(0, |report| report.groups.as_slice().len());
             println!(rt;
                 "{what} into {size}: {length} octets, {past} left alone, {groups} groups read back"
             )
@@ -79,13 +78,7 @@ fn show(rt: &HostRuntime, what: &str, report: &Report, size: usize) -> io::Resul
 }
 
 fn count(octets: &[u8], value: u8) -> usize {
-    let mut n = 0usize;
-    for octet in octets {
-        if *octet == value {
-            n = n.saturating_add(1);
-        }
-    }
-    n
+    octets.iter().filter(|octet| **octet == value).count()
 }
 
 fn run(rt: &HostRuntime) -> anyhow::Result<()> {
@@ -100,9 +93,8 @@ fn run(rt: &HostRuntime) -> anyhow::Result<()> {
     odd.number = 1_048_576;
     show(rt, "number 1048576", &odd, 100)?;
     let mut twice = one;
-    twice
-        .groups
-        .push(group(b"lib1", Units::Uplink(1)).context("lib1 is a key")?);
+    let again = group(b"lib1", Units::Uplink(1)).context("lib1 is a key")?;
+    twice.groups.push(again).ok().context("two groups fit")?;
     show(rt, "lib1 twice", &twice, 200)?;
     Ok(())
 }

@@ -6,28 +6,16 @@ use cli::{Command, TextCommand};
 use std::process::ExitCode;
 use std::{env, io};
 
-fn run(rt: &HostRuntime) -> io::Result<()> {
-    let mut words = env::args(rt)?;
+// A wrong command or text is told where it is met, and only gives the status. Any other error is told here.
+fn main(rt: HostRuntime) -> io::Result<ExitCode> {
+    let mut words = env::args(&rt)?;
     let _program = words.next();
     match (words.next(), words.next()) {
-        (None, _) => Command::Help.run(rt),
+        (None, _) => Command::Help.run(&rt),
         (Some(word), None) => match TextCommand::of(word.as_str()) {
-            Some(command) => command.run(rt),
-            None => Command::of(word.as_str()).run(rt),
+            Some(command) => command.run(&rt),
+            None => Command::of(word.as_str()).run(&rt),
         },
-        (Some(_), Some(_)) => Command::Unknown.run(rt),
+        (Some(_), Some(_)) => Command::Unknown.run(&rt),
     }
-}
-
-// A wrong command or text was told where it was met, and only gives the status. Any other error is told here.
-fn main(rt: HostRuntime) -> io::Result<ExitCode> {
-    match run(&rt) {
-        Ok(()) => Ok(ExitCode::SUCCESS),
-        Err(error) if is_told(&error) => Ok(ExitCode::FAILURE),
-        Err(error) => Err(error),
-    }
-}
-
-fn is_told(error: &io::Error) -> bool {
-    error.kind() == io::ErrorKind::InvalidInput && error.raw_os_error().is_none()
 }

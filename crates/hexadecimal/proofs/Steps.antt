@@ -1,5 +1,8 @@
 -- A text that is read in part: the octets so far, a first digit that waits for its second, and the rest.
-use Rattle.std.proofs.Common.{◌≡◌, ℕ, ◌+◌, ◌*◌, ◌/◌, ◌%◌, ◌<◌, ◌≤◌, cond, eqb, List, [], ◌∷◌, ◌++◌, length, get_or, drop, IfSome, Some, None, Ok, Err, Option, Result, sym, refl, ap, ◌∙◌, append_assoc, append-nil, ne_eqb}
+use Rattle.std.proofs.Common.{◌≡◌, ℕ, ◌+◌, ◌*◌, ◌/◌, ◌%◌, ◌-◌, ◌^◌, false, arith, ◌<◌, ◌≤◌, cond, eqb, List, [], ◌∷◌, ◌++◌, length, get_or, drop, IfSome, Some, None, Ok, Err, Option, Result, sym, refl, ap, ◌∙◌, append_assoc, append-nil, ne_eqb}
+use Rattle.std.proofs.lemmas.Bool.Decides.{nat_tests}
+use Rattle.std.proofs.lemmas.Fmt.{hex_byte}
+use Rattle.std.specs.Fmt.{digit_glyph, digits as digits_in, format_spec, padded_integral}
 use Rattle.std.proofs.lemmas.List.{at_drop_more, at_drop_all}
 use Rattle.hexadecimal.specs.declared.error.HexError.{HexError}
 use Rattle.hexadecimal.specs.declared.error.HexError.TheVariants.{NotADigit, Odd}
@@ -84,13 +87,17 @@ pub second_again : (done done' : List ℕ) (high high' : Option ℕ) (text : Lis
 second_again done done' high high' text i h d l ne e p q r w =
     rw (p, r) (second done text i h d _ l ne e (rw q at w.0), tt)
 
--- an octet's two letters are put behind what was written
-pub written : (was one two e f whole : List ℕ) (octets : List ℕ) (i h l : ℕ) → i < length octets
-    → one ≡ was ++ e → e ≡ h ∷ [] → h ≡ letter_of (get_or octets i 0 / 16)
-    → two ≡ one ++ f → f ≡ l ∷ [] → l ≡ letter_of (get_or octets i 0 % 16)
-    → was ++ text_of (drop i octets) ≡ whole → two ++ text_of (drop (i + 1) octets) ≡ whole
-written was one two e f whole octets i h l lt p pe ph q qe ql w =
-    rw (q, p, pe, qe, ph, ql) (simp append_assoc (sym (at_drop_more (λ os. was ++ text_of os) octets i 0 lt) ∙ w))
+-- what is printed of an octet are its two letters
+glyph_letter : (d : ℕ) → d < 16 → digit_glyph false d ≡ letter_of d
+glyph_letter d l = grind (arith, nat_tests)
 
-pub wrote : (is whole : List ℕ) (octets : List ℕ) (i : ℕ) → length octets ≤ i → is ++ text_of (drop i octets) ≡ whole → is ≡ whole
-wrote is whole octets i l w = sym (append-nil is) ∙ sym (at_drop_all (λ os. is ++ text_of os) octets i l) ∙ w
+pub octet_shown : (o : ℕ) → o < 256 → padded_integral (format_spec 32 0 4 2 (2 ^ 64 - 1)) false [] (digits_in 16 false o) ≡ letter_of (o / 16) ∷ letter_of (o % 16) ∷ []
+octet_shown o l =
+    let high : o / 16 < 16 = omega arith in
+    let low : o % 16 < 16 = omega arith in
+    hex_byte false o l ∙ (λ i. glyph_letter (o / 16) high i ∷ glyph_letter (o % 16) low i ∷ [])
+
+-- they stand behind what was written
+pub octet_more : (was : List ℕ) (octets : List ℕ) (i : ℕ) (whole : List ℕ) → i < length octets → was ++ text_of (drop i octets) ≡ whole
+    → (was ++ (letter_of (get_or octets i 0 / 16) ∷ letter_of (get_or octets i 0 % 16) ∷ [])) ++ text_of (drop (i + 1) octets) ≡ whole
+octet_more was octets i whole lt w = append_assoc was _ _ ∙ sym (at_drop_more (λ os. was ++ text_of os) octets i 0 lt) ∙ w

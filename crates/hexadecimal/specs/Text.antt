@@ -1,5 +1,5 @@
 -- Hexadecimal text: two digits to an octet, digits in either case, spaces anywhere.
-use Rattle.std.specs.Prelude.{ℕ, ◌+◌, ◌-◌, ◌*◌, ◌/◌, ◌%◌, ◌<◌, cond, ◌&&◌, List, [], ◌∷◌, Some, None, Ok, Err, Option, Result, ◌==◌, nat_le, nat_lt}
+use Rattle.std.specs.Prelude.{◌≡◌, ℕ, ◌+◌, ◌-◌, ◌*◌, ◌/◌, ◌%◌, ◌<◌, cond, ◌&&◌, List, [], ◌∷◌, ◌⊎◌, Some, None, Ok, Err, Option, Result, MatchResult, ◌==◌, nat_le, nat_lt}
 use Rattle.hexadecimal.specs.declared.error.HexError.{HexError}
 use Rattle.hexadecimal.specs.declared.error.HexError.TheVariants.{NotADigit, Odd, NoMemory}
 
@@ -49,3 +49,7 @@ letter_of d = cond (nat_lt d 10) (48 + d) (97 + (d - 10))
 abbrev pub text_of : List ℕ → List ℕ
 text_of [] = []
 text_of (o ∷ os) = letter_of (o / 16) ∷ (letter_of (o % 16) ∷ text_of os)
+
+-- what a call answers that may want memory: else its value or its error is the one that is meant
+abbrev pub Answers : {V W E : Type 0} → E → (V → W) → Result V E → Result W E → Type 0
+Answers wanting view r is = MatchResult r (λ v. is ≡ Ok (view v)) (λ e. (e ≡ wanting) ⊎ (is ≡ Err e))

@@ -8,6 +8,7 @@ mod error;
 mod reading;
 mod writing;
 
+pub use digit::digit_value;
 pub use error::HexError;
 pub use reading::decode;
-pub use writing::encode;
+pub use writing::{Hex, encode};

@@ -1,14 +1,14 @@
-ghost use Rattle.std.specs.Prelude.{◌≡◌, ◌⊎◌, length, IfErr, Ok, Err, MatchResult};
+ghost use Rattle.std.specs.Prelude.{length, IfErr};
 ghost use Rattle.hexadecimal.specs.declared.error.HexError.TheVariants.{NoMemory};
-ghost use Rattle.hexadecimal.specs.Text.{Inside, octets_of};
+ghost use Rattle.hexadecimal.specs.Text.{Answers, Inside, octets_of};
 
-use crate::digit::value;
+use crate::digit::digit_value;
 use crate::error::HexError;
 use std::alloc::Global;
 
 /// The octets of a text: digits in either case, two to an octet, with spaces anywhere.
 pub fn decode(heap: Global, text: &[u8]) -> Result<Vec<u8>, HexError>
-    ensures octets { MatchResult result (λ v. octets_of text.now ≡ Ok v.items) (λ e. (e ≡ NoMemory) ⊎ (octets_of text.now ≡ Err e)) }
+    ensures octets { Answers NoMemory (λ v. v.items) result (octets_of text.now) }
     ensures within { IfErr result (λ e. Inside e (length text.now)) }
 {
     let mut octets = Vec::new(heap);
@@ -17,7 +17,7 @@ pub fn decode(heap: Global, text: &[u8]) -> Result<Vec<u8>, HexError>
         if *character == b' ' {
             continue;
         }
-        let Some(digit) = value(*character) else {
+        let Some(digit) = digit_value(*character) else {
             return Err(HexError::NotADigit(place));
         };
         match high {

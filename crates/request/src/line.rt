@@ -1,11 +1,12 @@
-ghost use Rattle.std.specs.Prelude.{◌≡◌, ◌+◌, ◌^◌, ◌<◌, ◌⊎◌, length, Ok, Err, MatchResult};
-ghost use Rattle.request.specs.Lines.{dash, kind_of, message_of, octets_after};
+ghost use Rattle.std.specs.Prelude.{◌≡◌, ℕ, ◌+◌, ◌^◌, ◌<◌, length};
+ghost use Rattle.hexadecimal.specs.Text.{Answers, Inside};
+ghost use Rattle.request.specs.Lines.{dash, in_line, kind_of, message_of, octets_after};
 
 use hexadecimal::HexError;
 use message::Kind;
 use std::alloc::Global;
 use std::fmt;
-use words::{is_word, word_length};
+use words::word_length;
 
 /// A message as a line of input gives it.
 #[derive(Drop)]
@@ -44,17 +45,15 @@ impl fmt::Display for LineError {
     }
 }
 
+#[tactic(auto, using(words::proofs::Same::spelled))]
 fn kind_of(word: &[u8]) -> Option<Kind>
     ensures { result ≡ kind_of Kind.Report Kind.Answer Kind.Command word.now }
 {
-    if is_word(word, "report") {
-        Some(Kind::Report)
-    } else if is_word(word, "answer") {
-        Some(Kind::Answer)
-    } else if is_word(word, "command") {
-        Some(Kind::Command)
-    } else {
-        None
+    match word {
+        b"report" => Some(Kind::Report),
+        b"answer" => Some(Kind::Answer),
+        b"command" => Some(Kind::Command),
+        _ => None,
     }
 }
 
@@ -75,32 +74,37 @@ fn is_dash(text: &[u8]) -> bool
     seen
 }
 
+// What is wrong with octets that stand behind so many characters of their line.
+fn in_line(before: usize, error: HexError) -> LineError
+    requires { (size : ℕ) × (before + size < 2 ^ 64) × Inside error size }
+    ensures { result ≡ in_line before error }
+{
+    match error {
+        HexError::NotADigit(place) => LineError::NotADigit(before + place + 1),
+        HexError::Odd => LineError::OddDigits,
+        HexError::NoMemory => LineError::NoMemory,
+    }
+}
+
 // The octets of a text that follows so many characters of its line.
 fn octets_after(heap: Global, before: usize, text: &[u8]) -> Result<Vec<u8>, LineError>
     requires { before + length text.now < 2 ^ 64 }
-    ensures { MatchResult result (λ v. octets_after before text.now ≡ Ok v.items) (λ e. (e ≡ LineError.NoMemory) ⊎ (octets_after before text.now ≡ Err e)) }
+    ensures { Answers LineError.NoMemory (λ v. v.items) result (octets_after before text.now) }
 {
     if is_dash(text) {
         return Ok(Vec::new(heap));
     }
-    match hexadecimal::decode(heap, text) {
-        Ok(octets) => Ok(octets),
-        Err(HexError::NotADigit(place)) => Err(LineError::NotADigit(before + place + 1)),
-        Err(HexError::Odd) => Err(LineError::OddDigits),
-        Err(HexError::NoMemory) => Err(LineError::NoMemory),
-    }
+    hexadecimal::decode(heap, text).map_err(|error| in_line(before, error))
 }
 
 impl Request {
     /// The message of a line.
     pub fn parse(heap: Global, line: &[u8]) -> Result<Request, LineError>
-        ensures { MatchResult result (λ q. message_of Kind.Report Kind.Answer Kind.Command line.now ≡ Ok (q.kind, q.octets.items)) (λ e. (e ≡ LineError.NoMemory) ⊎ (message_of Kind.Report Kind.Answer Kind.Command line.now ≡ Err e)) }
+        ensures { Answers LineError.NoMemory (λ q. (q.kind, q.octets.items)) result (message_of Kind.Report Kind.Answer Kind.Command line.now) }
     {
         let before = word_length(line);
         let (word, rest) = line.split_at(before);
-        let Some(kind) = kind_of(word) else {
-            return Err(LineError::UnknownKind);
-        };
+        let kind = kind_of(word).ok_or(LineError::UnknownKind)?;
         let octets = octets_after(heap, before, rest)?;
         Ok(Request { kind, octets })
     }

@@ -4,7 +4,6 @@
 #![tactic(auto)]
 
 mod call;
-mod label;
 mod refusal;
 mod subject;
 mod walk;

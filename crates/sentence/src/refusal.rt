@@ -1,6 +1,5 @@
 //! A refusal in words: what to mend, and the AVP at the fault's place by its name.
 use crate::call::call_sentence;
-use crate::label::layer_word;
 use crate::subject::Subject;
 use avp::Name;
 use fault::{Code, Fault};
@@ -18,7 +17,7 @@ pub struct Refusal<'a> {
 impl fmt::Display for Refusal<'_> {
     fn fmt<W: fmt::Write>(&self, f: &mut fmt::Formatter<W>) -> fmt::Result {
         let code = self.fault.code.number();
-        let layer = layer_word(self.fault.layer);
+        let layer = self.fault.layer;
         let place = self.fault.place;
         write!(f, "refused {code} {layer} {place}: ")?;
         self.sentence(f)

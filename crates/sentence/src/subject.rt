@@ -1,5 +1,4 @@
 //! The AVP that a refusal is about, as far as its octets tell.
-use crate::label::avp_word;
 use crate::walk::{code_at, find};
 use avp::Name;
 use std::fmt;
@@ -17,7 +16,7 @@ pub(crate) enum Subject {
 impl fmt::Display for Subject {
     fn fmt<W: fmt::Write>(&self, f: &mut fmt::Formatter<W>) -> fmt::Result {
         match self {
-            Subject::Known(name, _) => f.write_str(avp_word(*name)),
+            Subject::Known(name, _) => write!(f, "{name}"),
             Subject::Unknown(code, Some(vendor)) => {
                 write!(f, "the AVP with code {code} and vendor {vendor}")
             }

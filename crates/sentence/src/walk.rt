@@ -13,11 +13,7 @@ pub(crate) struct Found {
 pub(crate) fn find(octets: &[u8], place: usize) -> Option<Found> {
     let mut part = Part::message(octets);
     let mut group = None;
-    // Each turn leaves some octets behind, so that there are fewer turns than octets.
-    for _ in 0..octets.len() {
-        let Ok(avp) = part.first() else {
-            return None;
-        };
+    while let Ok(avp) = part.first() {
         if avp.place == place {
             return Some(Found {
                 code: avp.code,
@@ -38,21 +34,16 @@ pub(crate) fn find(octets: &[u8], place: usize) -> Option<Found> {
 
 // The name of an AVP that holds others.
 fn group_of(avp: Avp<'_>) -> Option<Name> {
-    match Name::of(avp.code, avp.vendor) {
-        Some(Name::UsageMonitoringInformation) => Some(Name::UsageMonitoringInformation),
-        Some(Name::GrantedServiceUnit) => Some(Name::GrantedServiceUnit),
-        Some(Name::UsedServiceUnit) => Some(Name::UsedServiceUnit),
-        _ => None,
-    }
+    Name::of(avp.code, avp.vendor).filter(|name| {
+        matches!(
+            name,
+            Name::UsageMonitoringInformation | Name::GrantedServiceUnit | Name::UsedServiceUnit
+        )
+    })
 }
 
 /// The code at a place, where an AVP's header may be cut short.
 pub(crate) fn code_at(octets: &[u8], place: usize) -> Option<u32> {
-    if place > octets.len() {
-        return None;
-    }
-    match &octets[place..] {
-        [a, b, c, d, ..] => Some(u32::from_be_bytes([*a, *b, *c, *d])),
-        _ => None,
-    }
+    let code = octets.get(place..)?.first_chunk()?;
+    Some(u32::from_be_bytes(*code))
 }

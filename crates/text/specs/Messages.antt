@@ -14,6 +14,7 @@ use Rattle.message.specs.Numbered as numbered
 use Rattle.message.specs.Commands.{orders}
 use Rattle.words.specs.declared.expected.Expected.{Expected}
 use Rattle.words.specs.declared.expected.Expected.TheVariants as expected
+use Rattle.text.specs.declared.messages.Head.{Head}
 use Rattle.text.specs.declared.values.Message.{Message}
 use Rattle.text.specs.declared.values.Message.TheVariants as kind
 use Rattle.words.specs.Words.{word_of, rest_of, ended}
@@ -50,13 +51,13 @@ lines_of (Answers m) = answer_lines m
 lines_of (Orders vs) = command_lines vs
 
 -- NUMBER update|termination
-abbrev pub head_read : List ℕ → Result (ℕ × RequestType) Expected
+abbrev pub head_read : List ℕ → Result Head Expected
 head_read text =
     then (number_of (limits_of false CcRequestNumber) (word_of text)) (λ n. then (type_read (word_of (rest_of text)))
-    (λ t. then (ended (rest_of (rest_of text))) (λ _. Ok (n, t))))
+    (λ t. then (ended (rest_of (rest_of text))) (λ _. Ok (record { number = n; request_type = t }))))
 
-abbrev pub started : {V : Type 0} → ℕ × RequestType → numbered.Message V
-started h = record { number = h.0; type = h.1; groups = [] }
+abbrev pub started : {V : Type 0} → Head → numbered.Message V
+started h = record { number = h.number; type = h.request_type; groups = [] }
 
 -- the message that a first line begins
 abbrev pub begun : List ℕ → Result Told Expected

@@ -11,5 +11,5 @@ mod terms;
 mod unit_numbers;
 mod values;
 
-pub use groups::{push_answered, push_ordered, push_used, read_answered, read_ordered, read_used};
+pub use line::{Line, Lines};
 pub use values::{Message, Reading};

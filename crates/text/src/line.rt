@@ -1,69 +1,41 @@
-ghost use Rattle.std.specs.Prelude.{◌≡◌, ℕ, List, ◌++◌, map, string_bytes, Result, OnOk};
+ghost use Rattle.std.specs.Prelude.{◌≡◌, ℕ, List, map, Some, Result};
+ghost use Rattle.std.specs.Fmt.{WritesOnOk};
 ghost use Rattle.message.specs.Groups.{list_of};
 ghost use Rattle.words.specs.declared.expected.Expected.{Expected};
-ghost use Rattle.text.specs.Groups.{answer_line, answer_read, command_line, command_read, used_line, used_read};
 ghost use Rattle.text.specs.Messages.{Answered, line_joins, text_of};
 
-use crate::groups::{
-    push_answered, push_ordered, push_used, read_answered, read_ordered, read_used,
-};
-use information::{AnswerGroup, CommandGroup, ReportGroup};
 use message::{Entry, Groups, has_key};
 use std::fmt;
 use words::Expected;
 
 /// A group that a line of text writes.
-pub(crate) trait Line: Entry {
+pub trait Line: Entry {
     ghost parses: { List ℕ → Result Self Expected };
 
     ghost lined: { Self → List ℕ };
 
+    /// The group that a line writes.
     fn parse(line: &[u8]) -> Result<Self, Expected>
         ensures { result ≡ parses line.now };
 
-    fn push_line(&self, text: &mut String) -> fmt::Result
-        ensures { OnOk result (string_bytes text.new ≡ string_bytes text.old ++ lined self.now) };
+    /// Prints the line that writes the group.
+    fn fmt_line<W: fmt::Write>(&self, f: &mut fmt::Formatter<W>) -> fmt::Result
+        ensures { WritesOnOk W.write_str_gives f.old result (lined self.now) f.new };
 }
 
-impl Line for ReportGroup {
-    ghost parses = { used_read };
+/// Groups, which print a line each.
+#[derive(Clone, Copy)]
+pub struct Lines<'a, V>(pub &'a [V]);
 
-    ghost lined = { used_line };
+impl<V: Line> fmt::Display for Lines<'_, V> {
+    ghost output = { λ lines. Some (text_of (map V.Line.lined lines.0.now)) };
 
-    fn parse(line: &[u8]) -> Result<ReportGroup, Expected> {
-        read_used(line)
-    }
-
-    fn push_line(&self, text: &mut String) -> fmt::Result {
-        push_used(text, self)
-    }
-}
-
-impl Line for AnswerGroup {
-    ghost parses = { answer_read };
-
-    ghost lined = { answer_line };
-
-    fn parse(line: &[u8]) -> Result<AnswerGroup, Expected> {
-        read_answered(line)
-    }
-
-    fn push_line(&self, text: &mut String) -> fmt::Result {
-        push_answered(text, self)
-    }
-}
-
-impl Line for CommandGroup {
-    ghost parses = { command_read };
-
-    ghost lined = { command_line };
-
-    fn parse(line: &[u8]) -> Result<CommandGroup, Expected> {
-        read_ordered(line)
-    }
-
-    fn push_line(&self, text: &mut String) -> fmt::Result {
-        push_ordered(text, self)
+    fn fmt<W: fmt::Write>(&self, f: &mut fmt::Formatter<W>) -> fmt::Result {
+        for group in self.0 {
+            group.fmt_line(f)?;
+            f.write_str("\n")?;
+        }
+        Ok(())
     }
 }
 
@@ -75,19 +47,5 @@ pub(crate) fn add_line<V: Line>(groups: &mut Groups<V>, line: &[u8]) -> Result<(
     if has_key(groups.as_slice(), group.key()) {
         return Err(Expected::OtherKey);
     }
-    if !groups.push(group) {
-        return Err(Expected::NoMore);
-    }
-    Ok(())
-}
-
-// Puts a line for each group behind a text.
-pub(crate) fn push_lines<V: Line>(text: &mut String, groups: &[V]) -> fmt::Result
-    ensures { OnOk result (string_bytes text.new ≡ string_bytes text.old ++ text_of (map V.Line.lined groups.now)) }
-{
-    for group in groups {
-        group.push_line(text)?;
-        text.write("\n")?;
-    }
-    Ok(())
+    groups.push(group).map_err(|_| Expected::NoMore)
 }

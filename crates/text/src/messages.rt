@@ -1,16 +1,47 @@
-ghost use Rattle.std.specs.Prelude.{◌≡◌, [], ◌∷◌, ◌++◌, string_bytes, OnOk};
-ghost use Rattle.text.specs.Messages.{Answered, begun, extended, head_line, head_read, lines_of, meant, meant_by, text_of};
+ghost use Rattle.std.specs.Prelude.{◌≡◌, ◌++◌, Some, codes, decimal};
+ghost use Rattle.message.specs.Numbered.{message as numbered};
+ghost use Rattle.words.specs.Names.{type_word};
+ghost use Rattle.text.specs.Messages.{Answered, begun, extended, head_read, lines_of, meant, meant_by, started, text_of};
 
-use crate::line::{add_line, push_lines};
+use crate::line::{Lines, add_line};
 use crate::values::Message;
 use avp::Name;
-use message::{Answer, Command, Entry, Groups, Report};
+use information::CommandGroup;
+use message::{Command, Entry, Groups, Numbered};
 use std::fmt;
 use units::{RequestType, limits};
-use words::{Expected, end, first_word, is_word, read_number, read_type, type_word};
+use words::{Expected, end, first_word, read_number, read_type, type_word};
 
-// The number and the type of a report or an answer.
-fn read_head(text: &[u8]) -> Result<(u64, RequestType), Expected>
+/// The number and the type of a report or an answer, as its first line has them.
+#[derive(Clone, Copy)]
+pub(crate) struct Head {
+    pub(crate) number: u64,
+    pub(crate) request_type: RequestType,
+}
+
+impl Head {
+    fn of<V>(message: &Numbered<V>) -> Head
+        ensures { result ≡ record { number = message.now.number; request_type = message.now.request_type } }
+    {
+        Head {
+            number: message.number,
+            request_type: message.request_type,
+        }
+    }
+
+    // The message that it begins, without groups.
+    fn start<V: Entry>(self) -> Numbered<V>
+        ensures { numbered result ≡ started self }
+    {
+        Numbered {
+            number: self.number,
+            request_type: self.request_type,
+            groups: Groups::new(V::blank()),
+        }
+    }
+}
+
+fn read_head(text: &[u8]) -> Result<Head, Expected>
     ensures { result ≡ head_read text.now }
 {
     let (word, rest) = first_word(text);
@@ -18,45 +49,39 @@ fn read_head(text: &[u8]) -> Result<(u64, RequestType), Expected>
     let (word, rest) = first_word(rest);
     let request_type = read_type(word)?;
     end(rest)?;
-    Ok((number, request_type))
+    Ok(Head {
+        number,
+        request_type,
+    })
 }
 
-fn push_head(text: &mut String, kind: &str, number: u64, request_type: RequestType) -> fmt::Result
-    ensures { OnOk result (string_bytes text.new ≡ string_bytes text.old ++ (head_line kind.now number request_type ++ 10 ∷ [])) }
-{
-    let word = type_word(request_type);
-    text.write(kind)?;
-    write!(text, " {number} {word}")?;
-    Ok(text.write("\n")?)
+impl fmt::Display for Head {
+    ghost output = { λ head. Some (decimal head.number ++ (codes " " ++ type_word head.request_type)) };
+
+    fn fmt<W: fmt::Write>(&self, f: &mut fmt::Formatter<W>) -> fmt::Result {
+        let number = self.number;
+        let word = type_word(self.request_type);
+        write!(f, "{number} {word}")
+    }
 }
 
 impl Message {
     /// The message that the first line of a text begins, without groups.
+    #[tactic(auto, using(words::proofs::Same::spelled))]
     pub fn begin(line: &[u8]) -> Result<Message, Expected>
         ensures { meant_by result ≡ begun line.now }
     {
         let (word, rest) = first_word(line);
-        if is_word(word, "report") {
-            let (number, request_type) = read_head(rest)?;
-            Ok(Message::Report(Report {
-                number,
-                request_type,
-                groups: Groups::new(<information::ReportGroup as message::Entry>::blank()),
-            }))
-        } else if is_word(word, "answer") {
-            let (number, request_type) = read_head(rest)?;
-            Ok(Message::Answer(Answer {
-                number,
-                request_type,
-                groups: Groups::new(<information::AnswerGroup as message::Entry>::blank()),
-            }))
-        } else if is_word(word, "command") {
-            end(rest)?;
-            Ok(Message::Command(Command {
-                groups: Groups::new(<information::CommandGroup as message::Entry>::blank()),
-            }))
-        } else {
-            Err(Expected::Kind)
+        match word {
+            b"report" => Ok(Message::Report(read_head(rest)?.start())),
+            b"answer" => Ok(Message::Answer(read_head(rest)?.start())),
+            b"command" => {
+                end(rest)?;
+                Ok(Message::Command(Command {
+                    groups: Groups::new(CommandGroup::blank()),
+                }))
+            }
+            _ => Err(Expected::Kind),
         }
     }
 
@@ -70,23 +95,27 @@ impl Message {
             Message::Command(command) => add_line(&mut command.groups, line),
         }
     }
+}
 
-    /// Puts the message behind a text, line by line.
-    pub fn push(&self, text: &mut String) -> fmt::Result
-        ensures { OnOk result (string_bytes text.new ≡ string_bytes text.old ++ text_of (lines_of (meant self.now))) }
-    {
+/// A message prints as its text, line by line.
+impl fmt::Display for Message {
+    ghost output = { λ message. Some (text_of (lines_of (meant message))) };
+
+    fn fmt<W: fmt::Write>(&self, f: &mut fmt::Formatter<W>) -> fmt::Result {
         match self {
             Message::Report(report) => {
-                push_head(text, "report", report.number, report.request_type)?;
-                push_lines(text, report.groups.as_slice())
+                let head = Head::of(report);
+                let groups = Lines(report.groups.as_slice());
+                write!(f, "report {head}\n{groups}")
             }
             Message::Answer(answer) => {
-                push_head(text, "answer", answer.number, answer.request_type)?;
-                push_lines(text, answer.groups.as_slice())
+                let head = Head::of(answer);
+                let groups = Lines(answer.groups.as_slice());
+                write!(f, "answer {head}\n{groups}")
             }
             Message::Command(command) => {
-                text.writeln("command")?;
-                push_lines(text, command.groups.as_slice())
+                let groups = Lines(command.groups.as_slice());
+                write!(f, "command\n{groups}")
             }
         }
     }

@@ -1,11 +1,11 @@
-ghost use Rattle.std.specs.Prelude.{◌≡◌, ◌++◌, string_bytes, OnOk};
+ghost use Rattle.std.specs.Prelude.{◌≡◌, Some};
 ghost use Rattle.text.specs.Groups.{keyed_text, last_key, terms_read, terms_text};
 
-use crate::unit_numbers::{push_units, read_units};
+use crate::unit_numbers::{UnitWords, read_units};
 use key::Key;
 use std::fmt;
 use units::{Level, Units};
-use words::{Expected, end, first_word, level_word, push_key, read_key, read_level};
+use words::{Expected, KeyWord, end, first_word, level_word, read_key, read_level};
 
 /// What a line says of a key that counts.
 #[derive(Clone, Copy)]
@@ -13,6 +13,13 @@ pub(crate) struct Terms {
     pub(crate) key: Key,
     pub(crate) level: Level,
     pub(crate) units: Units,
+}
+
+/// A key and its level, which print as a line names them.
+#[derive(Clone, Copy)]
+pub(crate) struct Keyed {
+    pub(crate) key: Key,
+    pub(crate) level: Level,
 }
 
 pub(crate) fn read_terms(text: &[u8], granted: bool) -> Result<Terms, Expected>
@@ -36,17 +43,25 @@ pub(crate) fn read_last_key(text: &[u8]) -> Result<Key, Expected>
     Ok(key)
 }
 
-pub(crate) fn push_keyed(text: &mut String, key: &Key, level: Level) -> fmt::Result
-    ensures { OnOk result (string_bytes text.new ≡ string_bytes text.old ++ keyed_text key.now level) }
-{
-    push_key(text, key)?;
-    let level = level_word(level);
-    Ok(write!(text, " {level}")?)
+impl fmt::Display for Keyed {
+    ghost output = { λ keyed. Some (keyed_text keyed.key keyed.level) };
+
+    fn fmt<W: fmt::Write>(&self, f: &mut fmt::Formatter<W>) -> fmt::Result {
+        let key = KeyWord(&self.key);
+        let level = level_word(self.level);
+        write!(f, "{key} {level}")
+    }
 }
 
-pub(crate) fn push_terms(text: &mut String, key: &Key, level: Level, units: Units) -> fmt::Result
-    ensures { OnOk result (string_bytes text.new ≡ string_bytes text.old ++ terms_text key.now level units) }
-{
-    push_keyed(text, key, level)?;
-    push_units(text, units)
+impl fmt::Display for Terms {
+    ghost output = { λ terms. Some (terms_text terms.key terms.level terms.units) };
+
+    fn fmt<W: fmt::Write>(&self, f: &mut fmt::Formatter<W>) -> fmt::Result {
+        let keyed = Keyed {
+            key: self.key,
+            level: self.level,
+        };
+        let units = UnitWords(self.units);
+        write!(f, "{keyed}{units}")
+    }
 }

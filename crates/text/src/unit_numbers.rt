@@ -1,10 +1,14 @@
-ghost use Rattle.std.specs.Prelude.{◌≡◌, ◌++◌, string_bytes, OnOk};
+ghost use Rattle.std.specs.Prelude.{◌≡◌, Some};
 ghost use Rattle.text.specs.Units.{both_read, units_read, units_text};
 
 use avp::Name;
 use std::fmt;
 use units::{Units, limits};
-use words::{Expected, first_word, is_word, read_last_number, read_number};
+use words::{Expected, first_word, read_last_number, read_number};
+
+/// Units, which print as the words that end a line, each with a space before it.
+#[derive(Clone, Copy)]
+pub(crate) struct UnitWords(pub(crate) Units);
 
 fn read_both(text: &[u8], granted: bool) -> Result<Units, Expected>
     ensures { result ≡ both_read granted text.now }
@@ -16,33 +20,30 @@ fn read_both(text: &[u8], granted: bool) -> Result<Units, Expected>
 }
 
 // The units that end a line; granted ones have other limits than used ones.
+#[tactic(auto, using(words::proofs::Same::spelled))]
 pub(crate) fn read_units(text: &[u8], granted: bool) -> Result<Units, Expected>
     ensures { result ≡ units_read granted text.now }
 {
     let (form, rest) = first_word(text);
-    if is_word(form, "total") {
-        let total = read_last_number(rest, limits(Name::CcTotalOctets, granted))?;
-        Ok(Units::Total(total))
-    } else if is_word(form, "uplink") {
-        let uplink = read_last_number(rest, limits(Name::CcInputOctets, granted))?;
-        Ok(Units::Uplink(uplink))
-    } else if is_word(form, "downlink") {
-        let downlink = read_last_number(rest, limits(Name::CcOutputOctets, granted))?;
-        Ok(Units::Downlink(downlink))
-    } else if is_word(form, "both") {
-        read_both(rest, granted)
-    } else {
-        Err(Expected::Form)
+    let number = |name| read_last_number(rest, limits(name, granted));
+    match form {
+        b"total" => Ok(Units::Total(number(Name::CcTotalOctets)?)),
+        b"uplink" => Ok(Units::Uplink(number(Name::CcInputOctets)?)),
+        b"downlink" => Ok(Units::Downlink(number(Name::CcOutputOctets)?)),
+        b"both" => read_both(rest, granted),
+        _ => Err(Expected::Form),
     }
 }
 
-pub(crate) fn push_units(text: &mut String, units: Units) -> fmt::Result
-    ensures { OnOk result (string_bytes text.new ≡ string_bytes text.old ++ units_text units) }
-{
-    match units {
-        Units::Total(total) => Ok(write!(text, " total {total}")?),
-        Units::Uplink(uplink) => Ok(write!(text, " uplink {uplink}")?),
-        Units::Downlink(downlink) => Ok(write!(text, " downlink {downlink}")?),
-        Units::Both { uplink, downlink } => Ok(write!(text, " both {uplink} {downlink}")?),
+impl fmt::Display for UnitWords {
+    ghost output = { λ words. Some (units_text words.0) };
+
+    fn fmt<W: fmt::Write>(&self, f: &mut fmt::Formatter<W>) -> fmt::Result {
+        match self.0 {
+            Units::Total(total) => write!(f, " total {total}"),
+            Units::Uplink(uplink) => write!(f, " uplink {uplink}"),
+            Units::Downlink(downlink) => write!(f, " downlink {downlink}"),
+            Units::Both { uplink, downlink } => write!(f, " both {uplink} {downlink}"),
+        }
     }
 }

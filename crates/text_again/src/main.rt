@@ -3,7 +3,7 @@
 
 #![tactic(auto)]
 
-use anyhow::anyhow;
+use anyhow::Context;
 use cli::{read_message, write_message};
 use request::Request;
 use std::alloc::Global;
@@ -18,14 +18,12 @@ fn retold(heap: Global, message: &Message) -> anyhow::Result<Message> {
     push_message(&mut text, message)?;
     let mut reading = Reading::new();
     for line in text.as_str().lines() {
-        if reading.line(line.as_bytes()).is_err() {
-            return Err(anyhow!("a line of the text is refused"));
-        }
+        reading
+            .line(line.as_bytes())
+            .ok()
+            .context("a line of the text is refused")?;
     }
-    match reading.finish() {
-        Ok(message) => Ok(message),
-        Err(_) => Err(anyhow!("the text has no message")),
-    }
+    reading.finish().ok().context("the text has no message")
 }
 
 fn answer(heap: Global, request: &Request) -> anyhow::Result<&'static str> {
@@ -34,10 +32,10 @@ fn answer(heap: Global, request: &Request) -> anyhow::Result<&'static str> {
     };
     let mut octets = [0; 1560];
     let again = retold(heap, &message)?;
-    let Ok(length) = write_message(&mut octets, &again) else {
-        return Err(anyhow!("the message that was read from its text is refused"));
-    };
-    if octets.split_at(length.min(1560)).0 == request.octets.as_slice() {
+    let length = write_message(&mut octets, &again)
+        .ok()
+        .context("the message that was read from its text is refused")?;
+    if octets.get(..length) == Some(request.octets.as_slice()) {
         Ok("same")
     } else {
         Ok("other form")

@@ -12,10 +12,9 @@ use words::is_word;
 
 fn main(rt: HostRuntime) -> io::Result<()> {
     let mut reading = Reading::new();
-    let mut line: u64 = 0;
-    for octets in BufReader::new(rt.alloc(), rt.stdin())?.split(rt.alloc(), b'\n') {
+    let lines = BufReader::new(rt.alloc(), rt.stdin())?.split(rt.alloc(), b'\n');
+    for (line, octets) in (1u64..).zip(lines) {
         let octets = octets?;
-        line = line.saturating_add(1);
         if is_word(octets.as_slice(), "next") {
             if let Err(expected) = reading.finish() {
                 rt.println(TextFault { line, expected })?;

@@ -1,11 +1,11 @@
 -- The decimal digits of a number are read back as that number.
 use Rattle.std.proofs.Common.{◌≡◌, ℕ, ◌+◌, ◌*◌, ◌/◌, ◌%◌, ◌^◌, ◌<◌, ◌≤◌, true, false, eqb, List, [], ◌∷◌, ◌++◌, length, Some, None, Ok, decimal, Option, refl, ap, ◌∙◌, arith, length-append, ne_eqb}
+use Rattle.std.specs.List.{list_all}
 use Rattle.std.proofs.lemmas.Fmt.{decimal_by_steps}
 use Rattle.std.proofs.lemmas.Bool.Decides.{nat_tests}
 use Rattle.avp.specs.declared.field.Limits.{Limits}
 use Rattle.avp.specs.Fields.{allows}
 use Rattle.group.specs.Walk.{then}
-use Rattle.group.specs.Shapes.{every}
 use Rattle.words.specs.Words.{ended}
 use Rattle.words.specs.Numbers.{longer, onward, value_of, number_of, last_number}
 use Rattle.text_trip.proofs.Cuts.{inked, word_alone, rest_alone}
@@ -26,10 +26,10 @@ one_digit n d l fits = grind (arith, nat_tests)
 -- what is known of a number's digits
 pub record Figures (n : ℕ) (ds : List ℕ) : Type 0 where
   pub value : value_of 0 ds ≡ Some n
-  pub ink : every inked ds ≡ true
+  pub ink : list_all inked ds ≡ true
   pub some : 0 < length ds
 
-digit_ink : (d : ℕ) → d < 10 → every inked ((48 + d) ∷ []) ≡ true
+digit_ink : (d : ℕ) → d < 10 → list_all inked ((48 + d) ∷ []) ≡ true
 digit_ink d l = grind (arith, nat_tests)
 
 abbrev Fitting : ℕ → List ℕ → Type 0

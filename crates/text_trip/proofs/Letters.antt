@@ -1,9 +1,9 @@
 -- The text of a key is read back as that key.
 use Rattle.std.proofs.Common.{◌≡◌, ℕ, suc, ◌+◌, ◌*◌, ◌/◌, ◌%◌, ◌<◌, ◌≤◌, Bool, true, false, cond, eqb, leb, List, [], ◌∷◌, ◌++◌, length, get_or, take, Some, None, Ok, codes, refl, ap, ◌∙◌, arith}
+use Rattle.std.specs.List.{list_all}
 use Rattle.std.proofs.lemmas.Bool.{and_parts, and_from, and_left, and_right, cond-true, eq-eqb, le-leb}
 use Rattle.std.proofs.lemmas.Bool.Decides.{nat_tests}
 use Rattle.std.specs.Str.{bytes_eq}
-use Rattle.group.specs.Shapes.{every}
 use Rattle.hexadecimal.specs.Text.{digit_of, letter_of, text_of}
 use Rattle.key.specs.declared.key.Key.{Key}
 use Rattle.key.specs.Keys.{key_of}
@@ -32,7 +32,7 @@ pairs_back : (os : List ℕ) → Octets os → pairs (text_of os) ≡ Some os
 pairs_back [] small = refl
 pairs_back (o ∷ os) small = (λ i. before (octet_read o (small 0) i) (pairs_back os (λ k. small (suc k)) i))
 
-hex_inked : (os : List ℕ) → Octets os → every inked (text_of os) ≡ true
+hex_inked : (os : List ℕ) → Octets os → list_all inked (text_of os) ≡ true
 hex_inked [] small = refl
 hex_inked (o ∷ os) small =
     let o_small : o < 256 = small 0 in
@@ -46,10 +46,10 @@ plain_inked : (c : ℕ) → plain_one c ≡ true → inked c ≡ true
 plain_inked c e = grind (arith, nat_tests)
 
 -- a key's text, and that it leaves ink
-pub key_ink : (os : List ℕ) → Octets os → every inked (key_text os) ≡ true
+pub key_ink : (os : List ℕ) → Octets os → list_all inked (key_text os) ≡ true
 key_ink os small = by (plain os) refl
   where
-    by : (b : Bool) → plain os ≡ b → every inked (cond b os (codes "x:" ++ text_of os)) ≡ true
+    by : (b : Bool) → plain os ≡ b → list_all inked (cond b os (codes "x:" ++ text_of os)) ≡ true
     by true e = every_weaker plain_one inked plain_inked os e
     by false e = hex_inked os small
 

@@ -1,12 +1,11 @@
 -- The words of a group's line, from the key on, are read back.
 use Rattle.std.proofs.Common.{◌≡◌, ℕ, ◌^◌, ◌<◌, Bool, true, false, eqb, leb, List, [], ◌∷◌, ◌++◌, length, Ok, decimal, Result, refl, ap, ◌∙◌, append_assoc, arith}
 use Rattle.std.proofs.lemmas.Bool.{and_parts, leb-true, ne_eqb}
-use Rattle.std.specs.List.{prefix_len}
+use Rattle.std.specs.List.{list_all, prefix_len}
 use Rattle.avp.specs.declared.name.Name.TheVariants.{CcInputOctets, CcOutputOctets, CcTotalOctets}
 use Rattle.avp.specs.declared.field.Limits.{Limits}
 use Rattle.avp.specs.Fields.{allows}
 use Rattle.group.specs.Walk.{then}
-use Rattle.group.specs.Shapes.{every}
 use Rattle.key.specs.declared.key.Key.{Key}
 use Rattle.key.specs.Keys.{octets_of}
 use Rattle.units.specs.declared.values.Level.{Level}
@@ -15,7 +14,7 @@ use Rattle.units.specs.declared.values.Units.{Units}
 use Rattle.units.specs.declared.values.Units.TheVariants.{Total, Uplink, Downlink, Both}
 use Rattle.units.specs.Limits.{limits_of}
 use Rattle.wire.specs.Sound.{sound_key, sound_units}
-use Rattle.trip.proofs.Keys as sound
+use Rattle.trip.specs.Laws.Keys as sound
 use Rattle.words.specs.declared.expected.Expected.{Expected}
 use Rattle.words.specs.Words.{is_space, word_of, rest_of, ended}
 use Rattle.words.specs.Numbers.{number_of, last_number}
@@ -31,7 +30,7 @@ pub level_back : (l : Level) → level_read (level_word l) ≡ Ok l
 level_back Session = refl
 level_back Rule = refl
 
-pub level_ink : (l : Level) → every inked (level_word l) ≡ true
+pub level_ink : (l : Level) → list_all inked (level_word l) ≡ true
 level_ink Session = refl
 level_ink Rule = refl
 
@@ -89,7 +88,7 @@ units_apart (Downlink d) = refl
 units_apart (Both u d) = refl
 
 module _ (k : Key) (ok : sound_key k ≡ true) (octets : Octets (octets_of k)) where
-  pub key_inked : every inked (key_text (octets_of k)) ≡ true
+  pub key_inked : list_all inked (key_text (octets_of k)) ≡ true
   key_inked = key_ink (octets_of k) octets
 
   long : 0 < length (octets_of k)

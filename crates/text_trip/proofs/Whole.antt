@@ -1,12 +1,12 @@
 -- A whole message is read back, by induction over its groups.
-use Rattle.std.proofs.Common.{◌≡◌, ℕ, ◌+◌, ◌^◌, ◌<◌, ◌≤◌, Bool, true, false, cond, ltb, leb, List, [], ◌∷◌, ◌++◌, map, length, Some, None, Ok, Err, codes, decimal, Option, Result, sym, refl, ap, ◌∙◌, append_assoc, append-nil, arith, length-append}
+use Rattle.std.proofs.Common.{◌≡◌, ◌||◌, ℕ, ◌+◌, ◌^◌, ◌<◌, ◌≤◌, Bool, true, false, cond, ltb, leb, List, [], ◌∷◌, ◌++◌, map, length, Some, None, Ok, Err, codes, decimal, Option, Result, sym, refl, ap, ◌∙◌, append_assoc, append-nil, arith, length-append}
+use Rattle.std.specs.List.{list_all}
 use lib.ListN.{length-map}
 use Rattle.std.proofs.lemmas.List.{map_push}
 use Rattle.std.proofs.lemmas.Bool.{and_parts, cond-true, cond-false, lt-ltb, leb-true, false≢true}
 use Rattle.avp.specs.declared.name.Name.TheVariants.{CcRequestNumber}
 use Rattle.avp.specs.Fields.{allows}
 use Rattle.group.specs.Walk.{then}
-use Rattle.group.specs.Shapes.{every}
 use Rattle.key.specs.declared.key.Key.{Key}
 use Rattle.units.specs.declared.values.RequestType.{RequestType}
 use Rattle.units.specs.declared.values.RequestType.TheVariants.{Update, Termination}
@@ -49,7 +49,7 @@ pub record Kind (V : Type 0) : Type 1 where
   pub sound : V → Bool
   pub state : List V → Told
   pub back : (v : V) → sound v ≡ true → KeyOctets (keyed v) → reads (lined v) ≡ Ok (unplace v)
-  pub showy : (v : V) → sound v ≡ true → KeyOctets (keyed v) → every showing (lined v) ≡ true
+  pub showy : (v : V) → sound v ≡ true → KeyOctets (keyed v) → list_all showing (lined v) ≡ true
   pub says : (v : V) → skipped (lined v) ≡ false
   pub key_kept : (v : V) → keyed (unplace v) ≡ keyed v
   pub extends : (vs : List V) (line : List ℕ) → extended (state vs) line ≡ then (line_joins reads keyed vs line) (λ ws. Ok (state ws))
@@ -57,7 +57,7 @@ pub record Kind (V : Type 0) : Type 1 where
 module _ {V : Type 0} (kind : Kind V) where
   open_keys : (k : Option Key) (vs : List V) → has_key kind.keyed k (map kind.unplace vs) ≡ has_key kind.keyed k vs
   open_keys k [] = refl
-  open_keys k (v ∷ vs) = (λ i. cond (same_keys (kind.key_kept v i) k) true (open_keys k vs i))
+  open_keys k (v ∷ vs) = (λ i. same_keys (kind.key_kept v i) k || open_keys k vs i)
 
   fresh : (done : List V) (v : V) (vs : List V) → distinct_after kind.keyed done (v ∷ vs) ≡ true
       → (has_key kind.keyed (kind.keyed v) done ≡ false) × (distinct_after kind.keyed (done ++ v ∷ []) vs ≡ true)
@@ -88,26 +88,26 @@ module _ {V : Type 0} (kind : Kind V) where
       ∙ ap (λ r. then (then r (joins kind.keyed ds)) (λ ws. Ok (kind.state ws))) (kind.back v ok octets)
       ∙ ap (λ r. then r (λ ws. Ok (kind.state ws))) (joined done v new few))
 
-  pub groups_back : (done vs : List V) → every kind.sound vs ≡ true → AllOctets kind.keyed vs → distinct_after kind.keyed done vs ≡ true → length done + length vs ≤ 16
+  pub groups_back : (done vs : List V) → list_all kind.sound vs ≡ true → AllOctets kind.keyed vs → distinct_after kind.keyed done vs ≡ true → length done + length vs ≤ 16
       → all_read (Some (kind.state (map kind.unplace done))) (map kind.lined vs) ≡ Ok (Some (kind.state (map kind.unplace (done ++ vs))))
   groups_back done [] ok octets new few = ap (λ xs. Ok (Some (kind.state (map kind.unplace xs)))) (sym (append-nil done))
   groups_back done (v ∷ vs) ok octets new few =
-      let oks = and_parts (kind.sound v) (every kind.sound vs) ok in
+      let oks = and_parts (kind.sound v) (list_all kind.sound vs) ok in
       let news = fresh done v vs new in
       ap (λ r. then r (λ next. all_read next (map kind.lined vs))) (one_line done v oks.0 octets.0 news.0 (omega arith))
       ∙ groups_back (done ++ v ∷ []) vs oks.1 octets.1 news.1 (simp length-append (omega arith))
       ∙ ap (λ xs. Ok (Some (kind.state (map kind.unplace xs)))) (append_assoc done (v ∷ []) vs)
 
   -- the lines of groups are cut as they were put together
-  pub groups_cut : (vs : List V) → every kind.sound vs ≡ true → AllOctets kind.keyed vs → lines_in (text_of (map kind.lined vs)) ≡ map kind.lined vs
+  pub groups_cut : (vs : List V) → list_all kind.sound vs ≡ true → AllOctets kind.keyed vs → lines_in (text_of (map kind.lined vs)) ≡ map kind.lined vs
   groups_cut [] ok octets = refl
   groups_cut (v ∷ vs) ok octets =
-      let oks = and_parts (kind.sound v) (every kind.sound vs) ok in
+      let oks = and_parts (kind.sound v) (list_all kind.sound vs) ok in
       cut (kind.lined v) (text_of (map kind.lined vs)) (kind.showy v oks.0 octets.0) ∙ ap (λ ls. kind.lined v ∷ ls) (groups_cut vs oks.1 octets.1)
 
   -- a first line, and the groups behind it
-  pub whole : (head : List ℕ) (vs : List V) → every showing head ≡ true → skipped head ≡ false → begun head ≡ Ok (kind.state [])
-      → every kind.sound vs ≡ true → AllOctets kind.keyed vs → distinct kind.keyed vs ≡ true → length vs ≤ 16
+  pub whole : (head : List ℕ) (vs : List V) → list_all showing head ≡ true → skipped head ≡ false → begun head ≡ Ok (kind.state [])
+      → list_all kind.sound vs ≡ true → AllOctets kind.keyed vs → distinct kind.keyed vs ≡ true → length vs ≤ 16
       → all_read None (lines_in (head ++ (10 ∷ text_of (map kind.lined vs)))) ≡ Ok (Some (kind.state (map kind.unplace vs)))
   whole head vs shown says begins ok octets new few =
       ap (all_read None) (cut head (text_of (map kind.lined vs)) shown ∙ ap (λ ls. head ∷ ls) (groups_cut vs ok octets))
@@ -119,7 +119,7 @@ type_back : (t : RequestType) → type_read (type_word t) ≡ Ok t
 type_back Update = refl
 type_back Termination = refl
 
-type_ink : (t : RequestType) → every inked (type_word t) ≡ true
+type_ink : (t : RequestType) → list_all inked (type_word t) ≡ true
 type_ink Update = refl
 type_ink Termination = refl
 
@@ -130,17 +130,17 @@ type_some Termination = omega arith
 number_small : (n : ℕ) → allows (limits_of false CcRequestNumber) n ≡ true → n < 2 ^ 64
 number_small n e = omega (arith, leb-true n 1048575 (and_parts (leb 1 n) (leb n 1048575) e).1)
 
-head_back : (n : ℕ) (t : RequestType) → allows (limits_of false CcRequestNumber) n ≡ true → head_read (32 ∷ (decimal n ++ (32 ∷ type_word t))) ≡ Ok (n, t)
+head_back : (n : ℕ) (t : RequestType) → allows (limits_of false CcRequestNumber) n ≡ true → head_read (32 ∷ (decimal n ++ (32 ∷ type_word t))) ≡ Ok (record { number = n; request_type = t })
 head_back n t allowed =
     let f = figures n (number_small n allowed) in
     let word = word_after (decimal n ++ (32 ∷ type_word t)) ∙ word_first (decimal n) (32 ∷ type_word t) f.ink f.some refl in
     let rest = rest_after (decimal n ++ (32 ∷ type_word t)) ∙ rest_first (decimal n) (32 ∷ type_word t) f.ink f.some refl in
-    (λ i. then (number_of (limits_of false CcRequestNumber) (word i)) (λ m. then (type_read (word_of (rest i))) (λ u. then (ended (rest_of (rest i))) (λ _. Ok (m, u)))))
+    (λ i. then (number_of (limits_of false CcRequestNumber) (word i)) (λ m. then (type_read (word_of (rest i))) (λ u. then (ended (rest_of (rest i))) (λ _. Ok (record { number = m; request_type = u })))))
     ∙ (λ i. then (number_back (limits_of false CcRequestNumber) n (number_small n allowed) allowed i)
-    (λ m. then (type_read (word_alone (type_word t) (type_ink t) (type_some t) i)) (λ u. then (ended (rest_alone (type_word t) (type_ink t) (type_some t) i)) (λ _. Ok (m, u)))))
-    ∙ ap (λ r. then r (λ u. then (ended []) (λ _. Ok (n, u)))) (type_back t)
+    (λ m. then (type_read (word_alone (type_word t) (type_ink t) (type_some t) i)) (λ u. then (ended (rest_alone (type_word t) (type_ink t) (type_some t) i)) (λ _. Ok (record { number = m; request_type = u })))))
+    ∙ ap (λ r. then r (λ u. then (ended []) (λ _. Ok (record { number = n; request_type = u })))) (type_back t)
 
-head_shows : (word : List ℕ) (n : ℕ) (t : RequestType) → every showing word ≡ true → allows (limits_of false CcRequestNumber) n ≡ true → every showing (head_line word n t) ≡ true
+head_shows : (word : List ℕ) (n : ℕ) (t : RequestType) → list_all showing word ≡ true → allows (limits_of false CcRequestNumber) n ≡ true → list_all showing (head_line word n t) ≡ true
 head_shows word n t e allowed =
     behind word (codes " " ++ (decimal n ++ (codes " " ++ type_word t))) e
     (behind (codes " ") (decimal n ++ (codes " " ++ type_word t)) refl
@@ -210,14 +210,14 @@ no_fault false b e = let z : ◌≡◌ {A = ℕ} 0 1 = cc in absurd (omega arith
 reports_back : (m : Message ReportGroup) → length m.groups ≤ 16 → ReadsBack (Reports m)
 reports_back m few octets ok =
     let parts = no_fault _ _ ok in
-    let sound = and_parts (allows (limits_of false CcRequestNumber) m.number) (every sound_report m.groups) parts.0 in
+    let sound = and_parts (allows (limits_of false CcRequestNumber) m.number) (list_all sound_report m.groups) parts.0 in
     whole (reported m) (head_line (codes "report") m.number m.type) m.groups (head_shows (codes "report") m.number m.type refl sound.0) refl
     (ap (λ r. then r (λ h. Ok (Reports (started h)))) (head_back m.number m.type sound.0)) sound.1 octets parts.1 few
 
 answers_back : (m : Message AnswerGroup) → length m.groups ≤ 16 → ReadsBack (Answers m)
 answers_back m few octets ok =
     let parts = no_fault _ _ ok in
-    let sound = and_parts (allows (limits_of false CcRequestNumber) m.number) (every sound_answer m.groups) parts.0 in
+    let sound = and_parts (allows (limits_of false CcRequestNumber) m.number) (list_all sound_answer m.groups) parts.0 in
     whole (answered m) (head_line (codes "answer") m.number m.type) m.groups (head_shows (codes "answer") m.number m.type refl sound.0) refl
     (ap (λ r. then r (λ h. Ok (Answers (started h)))) (head_back m.number m.type sound.0)) sound.1 octets parts.1 few
 

@@ -1,5 +1,5 @@
 //! The text form of messages with what it promises: the text of a sound message reads back as that message. The crate
-//! below writes the text; what is added here is the theorem.
+//! below prints the text; what is added here is the theorem.
 
 #![tactic(auto)]
 
@@ -16,5 +16,5 @@ pub fn push_message(text: &mut String, message: &Message) -> fmt::Result
     ensures text { OnOk result (string_bytes text.new ≡ string_bytes text.old ++ text_of (lines_of (meant message.now))) }
     ensures reads_back { ReadsBack (meant message.now) }
 {
-    message.push(text)
+    Ok(write!(text, "{message}")?)
 }

@@ -5,7 +5,8 @@
 
 use cli::TextCommand;
 use std::io;
+use std::process::ExitCode;
 
-fn main(rt: HostRuntime) -> io::Result<()> {
+fn main(rt: HostRuntime) -> io::Result<ExitCode> {
     TextCommand::Write.run(&rt)
 }

@@ -1,9 +1,9 @@
 -- Hexadecimal digits that are read two by two.
-use Rattle.std.proofs.Common.{◌≡◌, ℕ, ◌+◌, ◌-◌, ◌*◌, ◌/◌, ◌<◌, ◌≤◌, true, List, [], ◌∷◌, ◌++◌, length, get_or, take, drop, set, Some, None, Option, sym, refl, ap, ◌∙◌, append_assoc, append-nil, arith}
-use Rattle.std.proofs.lemmas.List.{drop_more, drop_all, take_more_set}
+use Rattle.std.proofs.Common.{◌≡◌, ℕ, zero, suc, ◌+◌, ◌*◌, ◌/◌, ◌%◌, ◌<◌, ◌≤◌, true, List, [], ◌∷◌, ◌++◌, length, get_or, take, drop, set, Some, None, Option, sym, refl, ap, ◌∙◌, append_assoc, arith}
+use Rattle.std.proofs.lemmas.List.{drop_more, get_or-drop, get_or-take, take_more_set}
+use Rattle.std.specs.Simd.{first_chunks}
 use Rattle.std.proofs.lemmas.Bool.Decides.{nat_tests}
 use Rattle.hexadecimal.specs.Text.{digit_of}
-use Rattle.key.specs.Keys.{key_of}
 use Rattle.words.specs.Keys.{octet_of, before, hex_key, paired, pairs}
 
 abbrev pub behind : List ℕ → Option (List ℕ) → Option (List ℕ)
@@ -41,23 +41,26 @@ pub pair_stops : (digits octets : List ℕ) (i : ℕ) (w : Option (List ℕ)) �
 pair_stops digits octets i w l e h =
     ap (λ p. behind (take i octets) (before p (pairs (drop (2 * (i + 1)) digits)))) e ∙ sym (ap (behind (take i octets)) (two_more digits i l)) ∙ h
 
-pair_ends : (digits octets : List ℕ) (i : ℕ) (w : Option (List ℕ)) → length digits ≤ 2 * i
-    → behind (take i octets) (pairs (drop (2 * i) digits)) ≡ w → Some (take i octets) ≡ w
-pair_ends digits octets i w l h =
-    sym (ap Some (append-nil (take i octets))) ∙ sym (ap (λ ds. behind (take i octets) (pairs ds)) (drop_all (2 * i) digits l)) ∙ h
+pub hex_none : (digits : List ℕ) → paired (length digits) ≡ true → None ≡ pairs digits → None ≡ hex_key digits
+hex_none digits e h = rw (e, sym h)
 
-hex_some : (digits octets : List ℕ) → true ≡ paired (length digits) → Some octets ≡ pairs digits → key_of octets ≡ hex_key digits
-hex_some digits octets e h = rw (sym e, sym h)
+-- so many digits, two by two, are no more than a key's
+pub evenly : (n : ℕ) → n % 2 < 1 → n / 2 ≤ 16 → paired n ≡ true
+evenly n even few = grind (arith, nat_tests)
 
-pub hex_none : (digits : List ℕ) → true ≡ paired (length digits) → None ≡ pairs digits → None ≡ hex_key digits
-hex_none digits e h = rw (sym e, sym h)
+-- a digit of a pair
+chunk_at : (k i : ℕ) (digits : List ℕ) (j : ℕ) → i < k → j < 2 → get_or (get_or (first_chunks 2 k digits) i []) j 0 ≡ get_or digits (2 * i + j) 0
+chunk_at zero i digits j l m = absurd (omega arith)
+chunk_at (suc k) zero digits j l m = get_or-take 2 digits j 0 m ∙ ap (λ n. get_or digits n 0) (omega arith)
+chunk_at (suc k) (suc i) digits j l m =
+    let less : i < k = omega arith in
+    chunk_at k i (drop 2 digits) j less m ∙ get_or-drop 2 digits (2 * i + j) 0 ∙ ap (λ n. get_or digits n 0) (omega arith)
 
-pub enough : (n : ℕ) → true ≡ paired n → (n ≡ 2 * (n / 2)) × (n / 2 ≤ 16)
-enough n e = grind (arith, nat_tests)
-
-pub hex_done : (digits octets : List ℕ) (i : ℕ) → true ≡ paired (length digits) → length digits / 2 ≤ i → i ≤ length digits / 2
-    → behind (take i octets) (pairs (drop (2 * i) digits)) ≡ pairs digits → key_of (take (length digits / 2 - 0) octets) ≡ hex_key digits
-hex_done digits octets i e l m h =
-    let size = enough (length digits) e in
-    let same : length digits / 2 - 0 ≡ i = omega arith in
-    ap (λ n. key_of (take n octets)) same ∙ hex_some digits (take i octets) e (pair_ends digits octets i (pairs digits) (omega arith) h)
+pub pair_at : (chunks : List (List ℕ)) (digits : List ℕ) (n i : ℕ) → chunks ≡ first_chunks 2 n digits → length chunks ≡ n → i < length chunks
+    → octet_of (digit_of (get_or (get_or chunks i []) 0 0)) (digit_of (get_or (get_or chunks i []) 1 0))
+    ≡ octet_of (digit_of (get_or digits (2 * i) 0)) (digit_of (get_or digits (2 * i + 1) 0))
+pair_at chunks digits n i e size l =
+    let less : i < n = omega arith in
+    let first : get_or (get_or chunks i []) 0 0 ≡ get_or digits (2 * i) 0 = ap (λ cs. get_or (get_or cs i []) 0 0) e ∙ chunk_at n i digits 0 less (omega arith) ∙ ap (λ m. get_or digits m 0) (omega arith) in
+    let second : get_or (get_or chunks i []) 1 0 ≡ get_or digits (2 * i + 1) 0 = ap (λ cs. get_or (get_or cs i []) 1 0) e ∙ chunk_at n i digits 1 less (omega arith) in
+    (λ k. octet_of (digit_of (first k)) (digit_of (second k)))

@@ -1,9 +1,9 @@
 -- A key in a text: its characters where all of them print and none could be taken for something else, or `x:` and its
 -- octets in hexadecimal.
 use Rattle.std.specs.Prelude.{ℕ, ◌+◌, ◌*◌, ◌%◌, Bool, cond, not, ◌&&◌, List, [], ◌∷◌, ◌++◌, length, take, drop, Some, None, Ok, Err, codes, Option, Result, ◌==◌, nat_le}
+use Rattle.std.specs.List.{list_all}
 use Rattle.std.specs.Char.{is_ascii_graphic}
 use Rattle.std.specs.Str.{bytes_eq}
-use Rattle.group.specs.Shapes.{every}
 use Rattle.hexadecimal.specs.Text.{digit_of, text_of}
 use Rattle.key.specs.declared.key.Key.{Key}
 use Rattle.key.specs.Keys.{key_of}
@@ -15,7 +15,7 @@ abbrev pub plain_one : ℕ → Bool
 plain_one c = is_ascii_graphic c && (not (c == 58) && (not (c == 35) && not (c == 64)))
 
 abbrev pub plain : List ℕ → Bool
-plain characters = every plain_one characters
+plain characters = list_all plain_one characters
 
 -- the text of a key's octets
 abbrev pub key_text : List ℕ → List ℕ

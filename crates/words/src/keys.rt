@@ -1,12 +1,11 @@
-ghost use Rattle.std.specs.Prelude.{◌≡◌, true, false, ◌++◌, string_bytes, codes, MatchOption, OnOk};
-ghost use Rattle.hexadecimal.specs.Text.{digit_of, text_of};
+ghost use Rattle.std.specs.Prelude.{◌≡◌, true, false, Some, MatchOption};
+ghost use Rattle.hexadecimal.specs.Text.{digit_of};
 ghost use Rattle.key.specs.Keys.{octets_of};
-ghost use Rattle.words.specs.Keys.{hex_key, key_read, key_text, octet_of, paired, plain, plain_one};
+ghost use Rattle.words.specs.Keys.{hex_key, key_read, key_text, octet_of, plain, plain_one};
 
 use crate::expected::Expected;
-use crate::words::is_word;
+use hexadecimal::digit_value;
 use key::Key;
-use std::alloc::AllocError;
 use std::fmt;
 use std::str::from_utf8;
 
@@ -19,62 +18,36 @@ fn is_plain_one(character: u8) -> bool
 fn is_plain(characters: &[u8]) -> bool
     ensures { result ≡ plain characters.now }
 {
-    for character in characters {
-        if !is_plain_one(*character) {
-            return false;
-        }
-    }
-    true
-}
-
-// The value of a digit in either case.
-fn digit(character: u8) -> Option<u8>
-    ensures { result ≡ digit_of character }
-{
-    match character {
-        b'0'..=b'9' => Some(character - b'0'),
-        b'A'..=b'F' => Some(character - b'A' + 10),
-        b'a'..=b'f' => Some(character - b'a' + 10),
-        _ => None,
-    }
+    characters.iter().all(|character| is_plain_one(*character))
 }
 
 fn octet(high: u8, low: u8) -> Option<u8>
     ensures { result ≡ octet_of (digit_of high) (digit_of low) }
 {
-    match (digit(high), digit(low)) {
-        (Some(high), Some(low)) => Some(16 * high + low),
-        _ => None,
-    }
-}
-
-// Whether so many digits may write a key.
-fn is_paired(count: usize) -> bool
-    ensures { result ≡ paired count }
-{
-    count % 2 == 0 && count <= 32
+    Some(16 * digit_value(high)? + digit_value(low)?)
 }
 
 fn read_hex(digits: &[u8]) -> Option<Key>
     ensures { result ≡ hex_key digits.now }
 {
-    if !is_paired(digits.len()) {
+    let mut octets = [0; 16];
+    let (pairs, []) = digits.as_chunks::<2>() else {
+        return None;
+    };
+    if pairs.len() > octets.len() {
         return None;
     }
-    let size = digits.len() / 2;
-    let mut octets = [0; 16];
-    for place in 0..size {
-        octets[place] = octet(digits[2 * place], digits[2 * place + 1])?;
+    for (place, [high, low]) in pairs.iter().enumerate() {
+        octets[place] = octet(*high, *low)?;
     }
-    Key::new(&octets[0..size])
+    Key::new(&octets[..pairs.len()])
 }
 
 /// The key that a word writes.
 pub fn read_key(word: &[u8]) -> Result<Key, Expected>
     ensures { result ≡ key_read word.now }
 {
-    let (mark, digits) = word.split_at(word.len().min(2));
-    if is_word(mark, "x:") {
+    if let Some(digits) = word.strip_prefix(b"x:") {
         return read_hex(digits).ok_or(Expected::HexKey);
     }
     if !is_plain(word) {
@@ -83,43 +56,31 @@ pub fn read_key(word: &[u8]) -> Result<Key, Expected>
     Key::new(word).ok_or(Expected::Key)
 }
 
-fn push_hex(text: &mut String, octets: &[u8]) -> Result<(), AllocError>
-    ensures { OnOk result (string_bytes text.new ≡ string_bytes text.old ++ (codes "x:" ++ text_of octets.now)) }
-{
-    text.push_str("x:")?;
-    hexadecimal::encode(text, octets)
-}
+/// A key that prints as the word that `read_key` reads.
+#[derive(Clone, Copy)]
+pub struct KeyWord<'a>(pub &'a Key);
 
 // The octets as they are, if all of them are plain.
 fn as_plain(octets: &[u8]) -> Option<&str>
     ensures { MatchOption result (plain octets.now ≡ false) (λ s. (s.now ≡ octets.now) × (plain octets.now ≡ true)) }
 {
-    let Ok(characters) = from_utf8(octets) else {
+    if !is_plain(octets) {
         return None;
-    };
-    if is_plain(octets) {
-        Some(characters)
-    } else {
-        None
     }
+    from_utf8(octets).ok()
 }
 
-// Puts a key's octets behind a text.
-fn push_octets(text: &mut String, octets: &[u8]) -> Result<(), AllocError>
-    ensures { OnOk result (string_bytes text.new ≡ string_bytes text.old ++ key_text octets.now) }
-{
-    match as_plain(octets) {
-        Some(characters) => text.push_str(characters),
-        None => push_hex(text, octets),
-    }
-}
+impl fmt::Display for KeyWord<'_> {
+    ghost output = { λ word. Some (key_text (octets_of word.0.now)) };
 
-/// Puts a key behind a text.
-pub fn push_key(text: &mut String, key: &Key) -> fmt::Result
-    ensures { OnOk result (string_bytes text.new ≡ string_bytes text.old ++ key_text (octets_of key.now)) }
-{
-    match push_octets(text, key.octets()) {
-        Ok(()) => Ok(()),
-        Err(_) => Err(fmt::Error),
+    fn fmt<W: fmt::Write>(&self, f: &mut fmt::Formatter<W>) -> fmt::Result {
+        let octets = self.0.octets();
+        match as_plain(octets) {
+            Some(characters) => f.write_str(characters),
+            None => {
+                let digits = hexadecimal::encode(octets);
+                write!(f, "x:{digits}")
+            }
+        }
     }
 }

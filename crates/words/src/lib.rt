@@ -11,7 +11,7 @@ mod numbers;
 mod words;
 
 pub use expected::Expected;
-pub use keys::{push_key, read_key};
+pub use keys::{KeyWord, read_key};
 pub use lines::{is_skipped, without_return};
 pub use names::{level_word, read_level, read_type, type_word};
 pub use numbers::{read_last_number, read_number};

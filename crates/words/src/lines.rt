@@ -5,37 +5,18 @@ ghost use Rattle.words.specs.Lines.{blank, shorn, skipped};
 pub fn without_return(line: &[u8]) -> &[u8]
     ensures { result.now ≡ shorn line.now }
 {
-    if line.is_empty() {
-        return line;
-    }
-    let last = line.len() - 1;
-    if line[last] == b'\r' {
-        &line[0..last]
-    } else {
-        line
-    }
+    line.strip_suffix(b"\r").unwrap_or(line)
 }
 
 /// Whether a line says nothing: it is blank, or begins with #.
 pub fn is_skipped(line: &[u8]) -> bool
     ensures { result ≡ skipped line.now }
 {
-    if line.is_empty() {
-        return true;
-    }
-    if line[0] == b'#' {
-        return true;
-    }
-    is_blank(line)
+    line.starts_with(b"#") || is_blank(line)
 }
 
 fn is_blank(line: &[u8]) -> bool
     ensures { result ≡ blank line.now }
 {
-    for character in line {
-        if !character.is_ascii_whitespace() {
-            return false;
-        }
-    }
-    true
+    line.iter().all(|character| character.is_ascii_whitespace())
 }

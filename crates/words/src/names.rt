@@ -2,7 +2,6 @@ ghost use Rattle.std.specs.Prelude.{◌≡◌};
 ghost use Rattle.words.specs.Names.{level_read, level_word, type_read, type_word};
 
 use crate::expected::Expected;
-use crate::words::is_word;
 use units::{Level, RequestType};
 
 /// The word for a level.
@@ -16,15 +15,14 @@ pub fn level_word(level: Level) -> &'static str
 }
 
 /// The level that a word names.
+#[tactic(auto, using(crate::proofs::Same::spelled))]
 pub fn read_level(word: &[u8]) -> Result<Level, Expected>
     ensures { result ≡ level_read word.now }
 {
-    if is_word(word, "session") {
-        Ok(Level::Session)
-    } else if is_word(word, "rule") {
-        Ok(Level::Rule)
-    } else {
-        Err(Expected::Level)
+    match word {
+        b"session" => Ok(Level::Session),
+        b"rule" => Ok(Level::Rule),
+        _ => Err(Expected::Level),
     }
 }
 
@@ -39,14 +37,13 @@ pub fn type_word(request_type: RequestType) -> &'static str
 }
 
 /// The type that a word names.
+#[tactic(auto, using(crate::proofs::Same::spelled))]
 pub fn read_type(word: &[u8]) -> Result<RequestType, Expected>
     ensures { result ≡ type_read word.now }
 {
-    if is_word(word, "update") {
-        Ok(RequestType::Update)
-    } else if is_word(word, "termination") {
-        Ok(RequestType::Termination)
-    } else {
-        Err(Expected::RequestType)
+    match word {
+        b"update" => Ok(RequestType::Update),
+        b"termination" => Ok(RequestType::Termination),
+        _ => Err(Expected::RequestType),
     }
 }

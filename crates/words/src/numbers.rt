@@ -12,11 +12,9 @@ fn lengthen(number: u64, character: u8) -> Option<u64>
     if !character.is_ascii_digit() {
         return None;
     }
-    let digit = u64::from(character - b'0');
-    if number > (u64::MAX - digit) / 10 {
-        return None;
-    }
-    Some(10 * number + digit)
+    number
+        .checked_mul(10)?
+        .checked_add(u64::from(character - b'0'))
 }
 
 fn value(digits: &[u8]) -> Option<u64>
@@ -36,10 +34,9 @@ pub fn read_number(word: &[u8], limits: Limits) -> Result<u64, Expected>
     if word.is_empty() {
         return Err(Expected::Number(limits));
     }
-    match value(word) {
-        Some(number) if limits.allow(number) => Ok(number),
-        _ => Err(Expected::Number(limits)),
-    }
+    value(word)
+        .filter(|number| limits.allow(*number))
+        .ok_or(Expected::Number(limits))
 }
 
 /// The number that ends a line.

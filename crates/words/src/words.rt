@@ -1,29 +1,28 @@
-ghost use Rattle.std.specs.Prelude.{◌≡◌, ◌≤◌, length};
+ghost use Rattle.std.specs.Prelude.{◌≡◌, ◌≤◌, true, length};
 ghost use Rattle.std.specs.List.{prefix_len};
 ghost use Rattle.std.specs.Str.{bytes_eq};
 ghost use Rattle.words.specs.Words.{ended, is_space, rest_of, word_length, word_of};
 
 use crate::expected::Expected;
 
-// How many characters at the front are spaces, or are none.
-fn run_length(text: &[u8], spaces: bool) -> usize
-    ensures value { result ≡ prefix_len (is_space spaces) text.now }
-    ensures within { result ≤ length text.now }
-{
-    for (place, character) in text.iter().enumerate() {
-        if (*character == b' ') != spaces {
-            return place;
-        }
-    }
-    text.len()
-}
-
 /// How many characters stand before the first space.
 pub fn word_length(line: &[u8]) -> usize
     ensures value { result ≡ word_length line.now }
     ensures within { result ≤ length line.now }
 {
-    run_length(line, false)
+    line.iter()
+        .take_while(|character| **character != b' ')
+        .count()
+}
+
+// How many spaces stand at the front.
+fn indent(text: &[u8]) -> usize
+    ensures value { result ≡ prefix_len (is_space true) text.now }
+    ensures within { result ≤ length text.now }
+{
+    text.iter()
+        .take_while(|character| **character == b' ')
+        .count()
 }
 
 /// The first word of a text, and what follows it. The word is empty where there is none.
@@ -31,8 +30,8 @@ pub fn first_word(text: &[u8]) -> (&[u8], &[u8])
     ensures word { result.0.now ≡ word_of text.now }
     ensures rest { result.1.now ≡ rest_of text.now }
 {
-    let (_, trimmed) = text.split_at(run_length(text, true));
-    trimmed.split_at(word_length(trimmed))
+    let text = &text[indent(text)..];
+    text.split_at(word_length(text))
 }
 
 /// Whether the characters are this word.

@@ -1,6 +1,6 @@
-use Rattle.std.proofs.Common.{refl}
-use Rattle.words.proofs.Plain.{not_plain}
+use Rattle.std.proofs.Common.{sym}
+use Rattle.words.proofs.Plain.{plain_text}
 use Rattle.words.proofs.keys.as_plain.Goals as goal
 
-pub returns-in_default : goal.returns-in_default
-returns-in_default c = not_plain _ c.args.octets.now refl c.in_default.ensures.cases.0
+pub returns : goal.returns
+returns c = plain_text c.args.octets.now _ _ (sym c.if-not-is_plain.ensures) c.from_utf8.ensures.cases c.ok.ensures.value

@@ -1,15 +1,11 @@
-use Rattle.std.proofs.Common.{sym}
+use Rattle.std.proofs.Common.{◌∙◌, rules, tests}
+use Rattle.std.proofs.lemmas.Iterator.{YieldsList-from_slice}
+use Rattle.std.proofs.lemmas.Iterator.Search.{all_from_yields_List}
 use Rattle.words.specs.Keys.{plain_one}
-use Rattle.words.proofs.Walks.{every_goes, every_stops, every_ends}
+use Rattle.words.proofs.Walks.{every_all}
 use Rattle.words.proofs.keys.is_plain.Goals as goal
 
-pub returns-then-not-is_plain_one : goal.returns-then-not-is_plain_one
-returns-then-not-is_plain_one c =
-    every_stops plain_one c.args.characters.now _ _ c.loop-character-test.true (sym c.if-not-is_plain_one.ensures) c.loop-character.invariant
-
-pub loop-character-preserved : goal.loop-character-preserved
-loop-character-preserved c =
-    every_goes plain_one c.args.characters.now _ _ c.loop-character-test.true (sym c.if-not-is_plain_one.ensures) c.loop-character.invariant
-
 pub returns : goal.returns
-returns c = every_ends plain_one c.args.characters.now _ _ c.loop-character-test.false c.loop-character.invariant
+returns c =
+    let text = c.args.characters.now in
+    all_from_yields_List plain_one _ _ c.all.result c.all.ensures.ran (YieldsList-from_slice text cc) (λ x b q k. search (rules, tests)) ∙ every_all plain_one text
