@@ -1,5 +1,5 @@
 -- Traffic: what it adds, under each key. Assumes nothing.
-use Rattle.std.proofs.Common.{◌≡◌, ℕ, ◌+◌, Bool, true, false, cond, not, eqb, List, [], ◌∷◌, ◌++◌, map, Some, None, Option, sym, refl, ap, ◌∙◌, ap₂, inl, arith}
+use Rattle.std.proofs.Common.{◌≡◌, ℕ, ◌+◌, Bool, true, false, cond, not, eqb, List, [], ◌∷◌, ◌++◌, map, Some, None, Option, sym, refl, ap, ◌∙◌, ap₂, inl, arith, flat_map}
 use Rattle.std.proofs.ByRecursion.{All-weaker}
 use Rattle.std.proofs.lemmas.Bool.{and_parts, eqb-true, false≢true}
 use Rattle.key.specs.declared.key.Key.{Key}
@@ -10,7 +10,6 @@ use Rattle.bank.specs.declared.counts.Counts.{Counts}
 use Rattle.bank.specs.Meaning.{raised}
 use Rattle.usage.specs.declared.values.Place.{Place}
 use Rattle.usage.specs.Forms.{covers, met}
-use Rattle.usage.specs.Tables.{gathered}
 use Rattle.usage.specs.Slots.{Slot, changed_in, closing, counts, has_key, holds, in_report, judged, octets_at, passes, reached_if, with_reason}
 use Rattle.usage.specs.Traffic.{raised_at, takes}
 use Rattle.usage.specs.Reports.{sent_at, sent_groups}
@@ -107,10 +106,10 @@ module _ (k : Option Key) (d x : ℕ) where
       go None = refl
       go (Some p) = after_sent k d x s.counts p (takes k d p)
 
-  pub raised_pending : (j : Key) (ss : List Slot) → pending_sum j (map (raised_at k d x) ss) ≡ pending_sum j ss + under j (gathered (λ s. amount_at k d x s.place) ss)
+  pub raised_pending : (j : Key) (ss : List Slot) → pending_sum j (map (raised_at k d x) ss) ≡ pending_sum j ss + under j (flat_map (λ s. amount_at k d x s.place) ss)
   raised_pending j [] = omega arith
   raised_pending j (s ∷ ss) =
-      omega (arith, go s.place, raised_pending j ss, under_append j (amount_at k d x s.place) (gathered (λ s. amount_at k d x s.place) ss))
+      omega (arith, go s.place, raised_pending j ss, under_append j (amount_at k d x s.place) (flat_map (λ s. amount_at k d x s.place) ss))
     where
       go : (o : Option Place) → cond (holds (has_key j) (after k d x s.counts o (passes (takes k d) o))) (octets_at (after k d x s.counts o (passes (takes k d) o))) 0 ≡ cond (passes (has_key j) o) (s.counts.uplink + s.counts.downlink) 0 + under j (amount_at k d x o)
       go None = omega arith

@@ -1,6 +1,6 @@
 -- Commands: what each group leaves of the slots. Assumes nothing.
 use Rattle.std.proofs.Common.{◌≡◌, ℕ, suc, ◌+◌, ◌≤◌, Bool, true, false, cond, not, ◌&&◌, List, [], ◌∷◌, ◌++◌, length, is_some, Some, None, Ok, Err, Option, Result, sym, refl, ap, ◌∙◌, subst, arith}
-use Rattle.std.specs.List.{AllByRecursion}
+use Rattle.std.specs.List.{AllByRecursion, list_any}
 use Rattle.std.proofs.lemmas.Bool.{false≢true}
 use Rattle.fault.specs.declared.Code.TheVariants as code
 use Rattle.fault.specs.declared.Fault.{Fault}
@@ -17,7 +17,7 @@ use Rattle.trip.specs.Laws.Keys.{same_key_lem}
 use Rattle.bank.specs.declared.counts.Counts.{Counts}
 use Rattle.usage.specs.declared.values.Place.{Place}
 use Rattle.usage.specs.Forms.{clamped, same_form}
-use Rattle.usage.specs.Tables.{any, at_first, tally}
+use Rattle.usage.specs.Tables.{at_first, tally}
 use Rattle.usage.specs.Slots.{Slot, changed, changed_in, closing, going_on, has_key, holds, in_report, is_session, judged, octets_at, place_of, same_level, vacant}
 use Rattle.usage.specs.Orders.{counts_session, disabled, given, grant, granted_again, named, new_place, obeyed, obeyed_all, placed, regranted, requested}
 use Rattle.usage.specs.Reports.{sent_at, sent_groups}
@@ -143,7 +143,7 @@ module _ (ceiling : ℕ) (ss : List Slot) (ok : SlotsOk ceiling ss) (at : ℕ) (
       go false false out true true form = same_by_quiet ceiling ss _ ok (each_keyed (Quiet ceiling) k (regranted u) p (regrant u p low out form) ss (all_quiet ceiling ss ok.each) found)
 
   first_fine : (l : Level) (u : Units) → Low ceiling u → place_of k ss ≡ None → Fine ceiling ss (placed ss at (new_place k l u))
-  first_fine l u low none = go (not (any vacant ss)) (is_session l && any (holds counts_session) ss)
+  first_fine l u low none = go (not (list_any vacant ss)) (is_session l && list_any (holds counts_session) ss)
     where
       go : (a b : Bool) → Fine ceiling ss (cond a (Err (call_fault code.Full at)) (cond b (Err (call_fault code.SessionKey at)) (Ok (at_first vacant (given (new_place k l u)) ss))))
       go true b = tt

@@ -1,6 +1,6 @@
 -- Calls that count and report nothing: install, remove, command, terminate. Assumes nothing.
 use Rattle.std.proofs.Common.{◌≡◌, ℕ, Bool, true, false, cond, not, ◌&&◌, List, [], ◌∷◌, map, is_some, Some, None, Option, sym, refl, ap, ◌∙◌}
-use Rattle.std.specs.List.{AllByRecursion}
+use Rattle.std.specs.List.{AllByRecursion, list_any}
 use Rattle.std.proofs.ByRecursion.{All-weaker}
 use Rattle.std.proofs.lemmas.Bool.{false≢true}
 use Rattle.key.specs.declared.key.Key.{Key}
@@ -10,7 +10,7 @@ use Rattle.usage.specs.declared.values.Reason.{Reason}
 use Rattle.usage.specs.declared.values.Reason.TheVariants as reason
 use Rattle.usage.specs.declared.values.Rule.{Rule}
 use Rattle.usage.specs.declared.values.Sent.{Sent}
-use Rattle.usage.specs.Tables.{any, at_first}
+use Rattle.usage.specs.Tables.{at_first}
 use Rattle.usage.specs.Slots.{Slot, changed, changed_in, closing, counts, has_key, holds, is_session, with_reason}
 use Rattle.usage.specs.Rules.{after_rule, carries, unruled}
 use Rattle.usage.specs.Orders.{disabled, requested, requested_if}
@@ -116,7 +116,7 @@ module _ (ceiling : ℕ) where
 
   pub rule_gone : (k : Option Key) (others : List (Option Rule)) (ss : List Slot) → SlotsOk ceiling ss → Same ceiling ss (after_rule k others ss)
   rule_gone None others ss ok = same_itself ceiling ss ok
-  rule_gone (Some k) others ss ok = go (any (carries k) others)
+  rule_gone (Some k) others ss ok = go (list_any (carries k) others)
     where
       go : (b : Bool) → Same ceiling ss (cond b ss (at_first (holds (has_key k)) (changed unruled) ss))
       go true = same_itself ceiling ss ok

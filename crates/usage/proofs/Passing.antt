@@ -1,9 +1,10 @@
 -- Traffic keeps what holds. Assumes nothing.
-use Rattle.std.proofs.Common.{◌≡◌, ℕ, Bool, true, false, cond, not, map, Some, None, Ok, Option, Result, sym, refl, ap, subst, arith}
+use Rattle.std.proofs.Common.{◌≡◌, ℕ, Bool, true, false, cond, not, map, Some, None, Ok, Option, Result, sym, refl, ap, subst, arith, flat_map}
+use Rattle.std.specs.List.{list_any}
 use Rattle.fault.specs.declared.Code.TheVariants as code
 use Rattle.fault.specs.declared.Fault.{Fault}
 use Rattle.usage.specs.declared.values.Rule.{Rule}
-use Rattle.usage.specs.Tables.{any, gathered, tally}
+use Rattle.usage.specs.Tables.{tally}
 use Rattle.usage.specs.Slots.{holds}
 use Rattle.usage.specs.Meter.{Meter, refused, with_slots}
 use Rattle.usage.specs.Rules.{rule_of}
@@ -27,7 +28,7 @@ module _ (ceiling : ℕ) (w : World) (inv : Inv ceiling w) (n d x : ℕ) where
         ledger = inv.ledger;
         link = inv.link;
         balances = λ k.
-            let new = gathered (λ s. amount_at r.key d x s.place) w.meter.slots in
+            let new = flat_map (λ s. amount_at r.key d x s.place) w.meter.slots in
             let split = under_append k (amounts (rule_of n w.meter.rules) d x w.meter.slots) w.counted in
             let same : under k (amounts (rule_of n w.meter.rules) d x w.meter.slots) ≡ under k new = ap (λ o. under k (amounts o d x w.meter.slots)) e in
             omega (arith, inv.balances k, raised_pending r.key d x k w.meter.slots, split, same);
@@ -35,7 +36,7 @@ module _ (ceiling : ℕ) (w : World) (inv : Inv ceiling w) (n d x : ℕ) where
 
   by_rule : (o : Option Rule) → rule_of n w.meter.rules ≡ o → After (carried ceiling w.meter o d x)
   by_rule None e = inv
-  by_rule (Some r) e = go (any (overflows ceiling r.key d x) w.meter.slots)
+  by_rule (Some r) e = go (list_any (overflows ceiling r.key d x) w.meter.slots)
     where
       go : (b : Bool) → After (cond b (refused w.meter code.Ceiling) (with_slots w.meter (map (raised_at r.key d x) w.meter.slots), Ok (tally (holds (takes r.key d)) w.meter.slots)))
       go true = inv

@@ -1,11 +1,12 @@
 -- Install, remove, command and terminate keep what holds. Assumes nothing.
 use Rattle.std.proofs.Common.{◌≡◌, ℕ, ◌≤◌, Bool, true, false, cond, not, ◌&&◌, List, map, is_some, Some, None, Ok, Err, Option, Result, sym, refl, ◌∙◌, subst, arith}
+use Rattle.std.specs.List.{list_any}
 use Rattle.fault.specs.declared.Code.TheVariants as code
 use Rattle.fault.specs.declared.Fault.{Fault}
 use Rattle.information.specs.declared.values.CommandGroup.{CommandGroup}
 use Rattle.message.specs.Commands.{read_command}
 use Rattle.usage.specs.declared.values.Rule.{Rule}
-use Rattle.usage.specs.Tables.{any, at_first, free}
+use Rattle.usage.specs.Tables.{at_first, free}
 use Rattle.usage.specs.Slots.{Slot, changed}
 use Rattle.usage.specs.Meter.{Meter, refused}
 use Rattle.usage.specs.Rules.{install, is_rule, key_fits, key_given, remove, removing, rule_fits, rule_of, with_rules}
@@ -37,7 +38,7 @@ module _ (ceiling : ℕ) (w : World) (inv : Inv ceiling w) where
   After r = Inv ceiling (with_meter w r.0)
 
   pub keeps_install : (n : ℕ) (ks : Option (List ℕ)) → After (install w.meter n ks)
-  keeps_install n ks = go (not (rule_fits n && key_fits ks)) w.meter.terminated (is_some (rule_of n w.meter.rules)) (not (any free w.meter.rules))
+  keeps_install n ks = go (not (rule_fits n && key_fits ks)) w.meter.terminated (is_some (rule_of n w.meter.rules)) (not (list_any free w.meter.rules))
     where
       go : (a b c d : Bool) → After (cond a (refused w.meter code.Range) (cond b (refused w.meter code.Terminated) (cond c (refused w.meter code.Rule) (cond d (refused w.meter code.Full) (with_rules w.meter (at_first free (λ _. Some (record { number = n; key = key_given ks })) w.meter.rules) w.meter.slots, Ok tt)))))
       go true b c d = inv

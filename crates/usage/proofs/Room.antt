@@ -1,6 +1,6 @@
 -- What is at its threshold is noticed, and the ceiling stops no packet before. Assumes nothing.
 use Rattle.std.proofs.Common.{◌≡◌, ℕ, ◌+◌, ◌<◌, ◌≤◌, Bool, true, false, cond, not, ◌&&◌, ◌||◌, eqb, ltb, leb, List, [], ◌∷◌, map, Some, None, Ok, Err, Option, Result, sym, refl, ap, subst, arith}
-use Rattle.std.specs.List.{AllByRecursion}
+use Rattle.std.specs.List.{AllByRecursion, list_any}
 use Rattle.std.proofs.ByRecursion.{All-weaker}
 use Rattle.std.proofs.lemmas.Bool.{and_parts, eqb-true, false≢true, le-leb, leb-true, ltb-true, or_left, or_right}
 use Rattle.fault.specs.declared.Code.TheVariants as code
@@ -13,7 +13,7 @@ use Rattle.bank.specs.Meaning.{count_of}
 use Rattle.usage.specs.declared.values.Place.{Place}
 use Rattle.usage.specs.declared.values.Rule.{Rule}
 use Rattle.usage.specs.Forms.{covers, met}
-use Rattle.usage.specs.Tables.{any, tally}
+use Rattle.usage.specs.Tables.{tally}
 use Rattle.usage.specs.Slots.{Slot, counts, holds, passes}
 use Rattle.usage.specs.Meter.{Meter, refused, with_slots}
 use Rattle.usage.specs.Rules.{rule_fits, rule_of}
@@ -62,13 +62,13 @@ overflow_reached ceiling r d x small s ok e =
         let covered = (and_parts (covers p.thresholds d) _ (and_parts (counts p) _ t).1).0 in
         both_true (takes r.key d p) (met p.thresholds s.counts) t (met_by ceiling d p.thresholds s.counts covered h.low over)
 
-any_by : (p q : Slot → Bool) (ss : List Slot) → AllByRecursion (λ s. p s ≡ true → q s ≡ true) ss → any p ss ≡ true → any q ss ≡ true
+any_by : (p q : Slot → Bool) (ss : List Slot) → AllByRecursion (λ s. p s ≡ true → q s ≡ true) ss → list_any p ss ≡ true → list_any q ss ≡ true
 any_by p q [] h e = absurd (false≢true e)
 any_by p q (s ∷ ss) h e = go (p s) refl e (λ f. any_by p q ss h.1 f)
   where
-    go : (b : Bool) → p s ≡ b → (b || any p ss) ≡ true → (any p ss ≡ true → any q ss ≡ true) → (q s || any q ss) ≡ true
-    go true is f ih = or_left (q s) (any q ss) (h.0 is)
-    go false is f ih = or_right (q s) (any q ss) (ih f)
+    go : (b : Bool) → p s ≡ b → (b || list_any p ss) ≡ true → (list_any p ss ≡ true → list_any q ss ≡ true) → (q s || list_any q ss) ≡ true
+    go true is f ih = or_left (q s) (list_any q ss) (h.0 is)
+    go false is f ih = or_right (q s) (list_any q ss) (ih f)
 
 abbrev code_in : Result ℕ Fault → ℕ
 code_in (Ok n) = 0
@@ -76,15 +76,15 @@ code_in (Err f) = number_of f.code
 
 module _ (ceiling : ℕ) (m : Meter) (ok : AllByRecursion (SlotOk ceiling) m.slots) (n d x : ℕ) where
   abbrev Reached : Meter × Result ℕ Fault → Type 0
-  Reached r = r.1 ≡ Err (call_fault code.Ceiling 0) → any (reached_by (rule_of n m.rules) d) m.slots ≡ true
+  Reached r = r.1 ≡ Err (call_fault code.Ceiling 0) → list_any (reached_by (rule_of n m.rules) d) m.slots ≡ true
 
   by_rule : x ≤ 65535 → (o : Option Rule) → rule_of n m.rules ≡ o → Reached (carried ceiling m o d x)
   by_rule small None is e = let f : ◌≡◌ {A = ℕ} 12 19 = ap code_in e in absurd (omega (arith, f))
-  by_rule small (Some r) is e = go (any (overflows ceiling r.key d x) m.slots) refl e
+  by_rule small (Some r) is e = go (list_any (overflows ceiling r.key d x) m.slots) refl e
     where
-      go : (b : Bool) → any (overflows ceiling r.key d x) m.slots ≡ b → Reached (cond b (refused m code.Ceiling) (with_slots m (map (raised_at r.key d x) m.slots), Ok (tally (holds (takes r.key d)) m.slots)))
+      go : (b : Bool) → list_any (overflows ceiling r.key d x) m.slots ≡ b → Reached (cond b (refused m code.Ceiling) (with_slots m (map (raised_at r.key d x) m.slots), Ok (tally (holds (takes r.key d)) m.slots)))
       go true over e =
-          subst (λ o. any (reached_by o d) m.slots ≡ true) (sym is)
+          subst (λ o. list_any (reached_by o d) m.slots ≡ true) (sym is)
           (any_by (overflows ceiling r.key d x) (reached_by (Some r) d) m.slots (All-weaker (SlotOk ceiling) _ (overflow_reached ceiling r d x small) m.slots ok) over)
       go false over e = let f : ◌≡◌ {A = ℕ} 0 19 = ap code_in e in absurd (omega (arith, f))
 

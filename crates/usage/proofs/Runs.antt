@@ -1,6 +1,6 @@
 -- Every run keeps what holds, and so the balance. Assumes nothing.
 use Rattle.std.proofs.Common.{◌≡◌, ℕ, zero, suc, ◌≤◌, Bool, true, false, cond, not, ltb, List, [], ◌∷◌, ◌++◌, length, replicate, is_some, Ok, Err, Result, refl, ap, subst, arith}
-use Rattle.std.specs.List.{AllByRecursion}
+use Rattle.std.specs.List.{AllByRecursion, list_any}
 use Rattle.std.proofs.ByRecursion.{All-push, All-weaker}
 use Rattle.std.proofs.lemmas.Bool.{false≢true}
 use Rattle.fault.specs.declared.Code.TheVariants as code
@@ -10,7 +10,7 @@ use Rattle.group.specs.Walk.{then}
 use Rattle.key.specs.declared.key.Key.{Key}
 use Rattle.wire.specs.Octets.{answer_octets}
 use Rattle.usage.specs.declared.values.Account.{Account}
-use Rattle.usage.specs.Tables.{any, tally}
+use Rattle.usage.specs.Tables.{tally}
 use Rattle.usage.specs.Slots.{empty, has_key, holds}
 use Rattle.usage.specs.Takes.{fixed_answer}
 use Rattle.usage.specs.Ledger.{Row, new_ledger, of, opened, row_added, row_fits, rows_added}
@@ -33,7 +33,7 @@ Fresh (Ok xs) = AllByRecursion (λ a. a.deducted ≡ 0) xs
 Fresh (Err f) = Unit {0}
 
 row_fresh : (xs : List Account) (r : Row) → AllByRecursion (λ a. a.deducted ≡ 0) xs → Fresh (row_added xs r)
-row_fresh xs r h = go (not (row_fits r)) (any (of (opened r).key) xs) (ltb (length xs) 16)
+row_fresh xs r h = go (not (row_fits r)) (list_any (of (opened r).key) xs) (ltb (length xs) 16)
   where
     go : (a b c : Bool) → Fresh (cond a (Err (call_fault code.Range 0)) (cond b (Err (call_fault code.RepeatedKey 0)) (cond c (Ok (xs ++ opened r ∷ [])) (Err (call_fault code.TooMany 0)))))
     go true b c = tt

@@ -1,5 +1,5 @@
 -- Answers: each ends the unanswered report.
-use Rattle.std.specs.Prelude.{ℕ, ◌+◌, Bool, true, false, cond, ◌&&◌, ◌||◌, List, [], ◌∷◌, map, Some, None, Ok, Err, Option, Result, ◌==◌}
+use Rattle.std.specs.Prelude.{ℕ, ◌+◌, Bool, true, false, cond, ◌&&◌, ◌||◌, List, [], ◌∷◌, map, Some, None, Ok, Err, Option, Result, ◌==◌, flat_map}
 use Rattle.fault.specs.declared.Code.{Code}
 use Rattle.fault.specs.declared.Code.TheVariants as code
 use Rattle.fault.specs.declared.Fault.{Fault}
@@ -14,7 +14,6 @@ use Rattle.message.specs.Numbered.{Message, read_answer}
 use Rattle.usage.specs.declared.values.Place.{Place}
 use Rattle.usage.specs.declared.values.Sent.{Sent}
 use Rattle.usage.specs.Forms.{clamped, same_form}
-use Rattle.usage.specs.Tables.{gathered}
 use Rattle.usage.specs.Slots.{Slot, closing, empty, going_on, judged_at, octets_at, place_of, same_level}
 use Rattle.usage.specs.Meter.{Meter, refused}
 
@@ -89,7 +88,7 @@ discarded_at gs s (Some p) = discarded gs s p p.sent
 
 -- what the answer discards, under each key
 abbrev pub discards : List AnswerGroup → List Slot → List Amount
-discards gs ss = gathered (λ s. discarded_at gs s s.place) ss
+discards gs ss = flat_map (λ s. discarded_at gs s s.place) ss
 
 abbrev pub in_all : List Amount → ℕ
 in_all [] = 0

@@ -1,6 +1,6 @@
 -- The balance: what holds after every run.
 use Rattle.std.specs.Prelude.{◌≡◌, ℕ, ◌+◌, ◌≤◌, Bool, true, false, ◌&&◌, ◌||◌, ◌⊎◌, List, [], length, take, pos, ◌-ℤ◌, Some, None, Ok, Err, Option, Result}
-use Rattle.std.specs.List.{slice_get, AllByRecursion}
+use Rattle.std.specs.List.{slice_get, AllByRecursion, list_any}
 use Rattle.fault.specs.declared.Code.TheVariants as code
 use Rattle.fault.specs.declared.Fault.{Fault}
 use Rattle.fault.specs.Numbers.{call_fault}
@@ -14,7 +14,6 @@ use Rattle.usage.specs.declared.values.Account.{Account}
 use Rattle.usage.specs.declared.values.Place.{Place}
 use Rattle.usage.specs.declared.values.Rule.{Rule}
 use Rattle.usage.specs.Forms.{met}
-use Rattle.usage.specs.Tables.{any}
 use Rattle.usage.specs.Slots.{Slot, counts, due, holds, in_report}
 use Rattle.usage.specs.Rules.{rule_of}
 use Rattle.usage.specs.Traffic.{takes, traffic}
@@ -59,7 +58,7 @@ pub record Balance (ceiling : ℕ) (w : World) : Type 0 where
   -- a key that counts and is at or above its threshold is due, or stands in the unanswered report
   pub noticed : AllByRecursion Noticed w.meter.slots
   -- the ceiling stops a packet only if a key that it counts for is at or above its threshold
-  pub room : (n d x : ℕ) → (traffic ceiling w.meter n d x).1 ≡ Err (call_fault code.Ceiling 0) → any (reached_by (rule_of n w.meter.rules) d) w.meter.slots ≡ true
+  pub room : (n d x : ℕ) → (traffic ceiling w.meter n d x).1 ≡ Err (call_fault code.Ceiling 0) → list_any (reached_by (rule_of n w.meter.rules) d) w.meter.slots ≡ true
   -- each report that was written reads back as one that was made; written again, it has the same octets
   pub written : AllByRecursion (Reported w.made) w.reports
   pub again : OneByNumber read_report w.reports

@@ -1,5 +1,6 @@
 -- The ledger: its accounts, how it is made from rows, what remains, and the next threshold.
 use Rattle.std.specs.Prelude.{ℕ, ◌-◌, ◌*◌, ◌/◌, min, max, Bool, cond, not, ◌&&◌, List, [], ◌∷◌, ◌++◌, length, ℤ, pos, ◌-ℤ◌, Some, None, Ok, Err, Option, Result, nat_le, nat_lt}
+use Rattle.std.specs.List.{list_any}
 use Rattle.fault.specs.declared.Code.TheVariants as code
 use Rattle.fault.specs.declared.Fault.{Fault}
 use Rattle.fault.specs.Numbers.{call_fault}
@@ -12,7 +13,6 @@ use Rattle.information.specs.declared.values.AnswerGroup.{AnswerGroup}
 use Rattle.usage.specs.declared.values.Account.{Account}
 use Rattle.usage.specs.declared.values.Plan.{Plan}
 use Rattle.usage.specs.declared.values.Plan.TheVariants.{Step, Share}
-use Rattle.usage.specs.Tables.{any}
 
 pub record Ledger : Type 0 where
   pub accounts : List Account
@@ -51,7 +51,7 @@ of k a = same_key a.key k
 abbrev pub row_added : List Account → Row → Result (List Account) Fault
 row_added xs r =
     cond (not (row_fits r)) (Err (call_fault code.Range 0))
-    (cond (any (of (opened r).key) xs) (Err (call_fault code.RepeatedKey 0))
+    (cond (list_any (of (opened r).key) xs) (Err (call_fault code.RepeatedKey 0))
     (cond (nat_lt (length xs) 16) (Ok (xs ++ opened r ∷ []))
     (Err (call_fault code.TooMany 0))))
 

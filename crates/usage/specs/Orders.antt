@@ -1,5 +1,6 @@
 -- Commands: their groups act in their order, and if one is refused, none has acted.
 use Rattle.std.specs.Prelude.{ℕ, Bool, cond, not, ◌&&◌, List, [], ◌∷◌, map, Some, None, Ok, Err, Option, Result}
+use Rattle.std.specs.List.{list_any}
 use Rattle.fault.specs.declared.Code.TheVariants as code
 use Rattle.fault.specs.declared.Fault.{Fault}
 use Rattle.fault.specs.Numbers.{call_fault}
@@ -15,7 +16,7 @@ use Rattle.usage.specs.declared.values.Place.{Place}
 use Rattle.usage.specs.declared.values.Reason.{Reason}
 use Rattle.usage.specs.declared.values.Reason.TheVariants as reason
 use Rattle.usage.specs.Forms.{clamped, same_form}
-use Rattle.usage.specs.Tables.{any, at_first}
+use Rattle.usage.specs.Tables.{at_first}
 use Rattle.usage.specs.Slots.{Slot, changed, closing, counts, going_on, has_key, in_report, is_session, judged_at, place_of, same_level, vacant, holds, with_reason}
 use Rattle.usage.specs.Meter.{Meter, refused, with_slots}
 
@@ -32,8 +33,8 @@ given p s = judged_at (record { place = Some p; counts = s.counts })
 -- a key without a place gets the lowest vacant slot
 abbrev pub placed : List Slot → ℕ → Place → Result (List Slot) Fault
 placed ss at p =
-    cond (not (any vacant ss)) (Err (call_fault code.Full at))
-    (cond (is_session p.level && any (holds counts_session) ss) (Err (call_fault code.SessionKey at))
+    cond (not (list_any vacant ss)) (Err (call_fault code.Full at))
+    (cond (is_session p.level && list_any (holds counts_session) ss) (Err (call_fault code.SessionKey at))
     (Ok (at_first vacant (given p) ss)))
 
 abbrev pub regranted : Units → Slot → Slot

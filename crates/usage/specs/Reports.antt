@@ -1,5 +1,6 @@
 -- Reports: the unanswered one again, or the next one, with every place that has a reason.
-use Rattle.std.specs.Prelude.{ℕ, ◌+◌, Bool, cond, not, ◌&&◌, List, [], ◌∷◌, map, Some, None, Ok, Err, Option, Result, nat_le}
+use Rattle.std.specs.Prelude.{ℕ, ◌+◌, Bool, cond, not, ◌&&◌, List, [], ◌∷◌, map, Some, None, Ok, Err, Option, Result, nat_le, flat_map}
+use Rattle.std.specs.List.{list_any}
 use Rattle.fault.specs.declared.Code.TheVariants as code
 use Rattle.fault.specs.declared.Fault.{Fault}
 use Rattle.units.specs.declared.values.RequestType.{RequestType}
@@ -15,7 +16,6 @@ use Rattle.usage.specs.declared.values.Place.{Place}
 use Rattle.usage.specs.declared.values.Reason.{Reason}
 use Rattle.usage.specs.declared.values.Sent.{Sent}
 use Rattle.usage.specs.Forms.{used_in}
-use Rattle.usage.specs.Tables.{any, gathered}
 use Rattle.usage.specs.Slots.{Slot, changed, closing, due, holds}
 use Rattle.usage.specs.Meter.{Meter, refused}
 use Rattle.usage.specs.Written.{writing}
@@ -35,7 +35,7 @@ sent_at (Some p) = group_sent p p.sent
 
 -- what the unanswered report holds
 abbrev pub sent_groups : List Slot → List ReportGroup
-sent_groups ss = gathered (λ s. sent_at s.place) ss
+sent_groups ss = flat_map (λ s. sent_at s.place) ss
 
 abbrev pub sent_report : Meter → RequestType → Message ReportGroup
 sent_report m t = record { number = m.latest; type = t; groups = sent_groups m.slots }
@@ -82,7 +82,7 @@ if_written before after (Ok bs) = (after, Ok bs)
 if_written before after (Err f) = (before, Err f)
 
 abbrev pub nothing_due : Meter → Bool
-nothing_due m = not m.terminated && not (any (holds due) m.slots)
+nothing_due m = not m.terminated && not (list_any (holds due) m.slots)
 
 -- the next report, as it is written for the first time
 abbrev pub next_report : Meter → Message ReportGroup

@@ -1,5 +1,6 @@
 -- Install and remove.
 use Rattle.std.specs.Prelude.{ℕ, Bool, true, false, cond, not, ◌&&◌, List, is_some, Some, None, Ok, Option, Result, ◌==◌, nat_le}
+use Rattle.std.specs.List.{list_any}
 use Rattle.fault.specs.declared.Code.TheVariants as code
 use Rattle.fault.specs.declared.Fault.{Fault}
 use Rattle.key.specs.declared.key.Key.{Key}
@@ -7,7 +8,7 @@ use Rattle.key.specs.Keys.{key_long, key_of, same_key}
 use Rattle.usage.specs.declared.values.Place.{Place}
 use Rattle.usage.specs.declared.values.Reason.TheVariants as reason
 use Rattle.usage.specs.declared.values.Rule.{Rule}
-use Rattle.usage.specs.Tables.{any, at_first, free, lookup}
+use Rattle.usage.specs.Tables.{at_first, free, lookup}
 use Rattle.usage.specs.Slots.{Slot, changed, counts, has_key, is_session, holds, with_reason}
 use Rattle.usage.specs.Meter.{Meter, refused}
 
@@ -48,7 +49,7 @@ install m n ks =
     cond (not (rule_fits n && key_fits ks)) (refused m code.Range)
     (cond m.terminated (refused m code.Terminated)
     (cond (is_some (rule_of n m.rules)) (refused m code.Rule)
-    (cond (not (any free m.rules)) (refused m code.Full)
+    (cond (not (list_any free m.rules)) (refused m code.Full)
     (with_rules m (at_first free (λ _. Some (record { number = n; key = key_given ks })) m.rules) m.slots, Ok tt))))
 
 -- a key that counts at rule level closes when its last rule goes
@@ -57,7 +58,7 @@ unruled p = cond (not (is_session p.level) && counts p) (with_reason p (Some rea
 
 abbrev pub after_rule : Option Key → List (Option Rule) → List Slot → List Slot
 after_rule None others ss = ss
-after_rule (Some k) others ss = cond (any (carries k) others) ss (at_first (holds (has_key k)) (changed unruled) ss)
+after_rule (Some k) others ss = cond (list_any (carries k) others) ss (at_first (holds (has_key k)) (changed unruled) ss)
 
 abbrev pub removing : Meter → Option Rule → List (Option Rule) → Meter × Result (Unit {0}) Fault
 removing m None others = refused m code.Rule

@@ -1,5 +1,5 @@
 -- Runs: every list of the ten calls, on both ends and the link between them.
-use Rattle.std.specs.Prelude.{ℕ, suc, cond, List, [], ◌∷◌, ◌++◌, take, drop, Some, None, Ok, Err, Option, Result, nat_lt}
+use Rattle.std.specs.Prelude.{ℕ, suc, cond, List, [], ◌∷◌, ◌++◌, take, drop, Some, None, Ok, Err, Option, Result, nat_lt, flat_map}
 use Rattle.std.specs.List.{slice_get}
 use Rattle.fault.specs.declared.Fault.{Fault}
 use Rattle.key.specs.declared.key.Key.{Key}
@@ -8,7 +8,6 @@ use Rattle.message.specs.Numbered.{Message}
 use Rattle.usage.specs.declared.values.Account.{Account}
 use Rattle.usage.specs.declared.values.Place.{Place}
 use Rattle.usage.specs.declared.values.Rule.{Rule}
-use Rattle.usage.specs.Tables.{gathered}
 use Rattle.usage.specs.Slots.{Slot}
 use Rattle.usage.specs.Meter.{Meter, new_meter}
 use Rattle.usage.specs.Rules.{install, remove, rule_of}
@@ -78,7 +77,7 @@ amount_at k d x (Some p) = cond (takes k d p) (record { key = p.key; octets = x 
 
 abbrev pub amounts : Option Rule → ℕ → ℕ → List Slot → List Amount
 amounts None d x ss = []
-amounts (Some r) d x ss = gathered (λ s. amount_at r.key d x s.place) ss
+amounts (Some r) d x ss = flat_map (λ s. amount_at r.key d x s.place) ss
 
 -- what accepted traffic added, under each key
 abbrev pub added_by : Result ℕ Fault → List Amount → List Amount

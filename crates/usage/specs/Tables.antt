@@ -1,13 +1,9 @@
--- Tables: the first entry that passes a test, a change of that entry alone, and lists gathered entry by entry.
-use Rattle.std.specs.Prelude.{ℕ, ◌+◌, Bool, true, false, cond, ◌||◌, List, [], ◌∷◌, ◌++◌, Some, None, Option}
+-- Tables: the first entry that passes a test, and a change of that entry alone.
+use Rattle.std.specs.Prelude.{ℕ, ◌+◌, Bool, true, false, cond, List, [], ◌∷◌, Some, None, Option}
 
 abbrev pub free : {X : Type 0} → Option X → Bool
 free None = true
 free (Some x) = false
-
-abbrev pub any : {X : Type 0} → (X → Bool) → List X → Bool
-any p [] = false
-any p (x ∷ xs) = p x || any p xs
 
 -- how many pass
 abbrev pub tally : {X : Type 0} → (X → Bool) → List X → ℕ
@@ -24,7 +20,3 @@ lookup p (Some x ∷ xs) = cond (p x) (Some x) (lookup p xs)
 abbrev pub at_first : {X : Type 0} → (X → Bool) → (X → X) → List X → List X
 at_first p f [] = []
 at_first p f (x ∷ xs) = cond (p x) (f x ∷ xs) (x ∷ at_first p f xs)
-
-abbrev pub gathered : {X Y : Type 0} → (X → List Y) → List X → List Y
-gathered f [] = []
-gathered f (x ∷ xs) = f x ++ gathered f xs

@@ -1,5 +1,6 @@
 -- Traffic and terminate.
 use Rattle.std.specs.Prelude.{ℕ, ◌+◌, Bool, true, cond, not, ◌&&◌, map, Some, None, Ok, Option, Result, nat_le, nat_lt}
+use Rattle.std.specs.List.{list_any}
 use Rattle.fault.specs.declared.Code.TheVariants as code
 use Rattle.fault.specs.declared.Fault.{Fault}
 use Rattle.key.specs.declared.key.Key.{Key}
@@ -8,7 +9,7 @@ use Rattle.usage.specs.declared.values.Place.{Place}
 use Rattle.usage.specs.declared.values.Reason.TheVariants as reason
 use Rattle.usage.specs.declared.values.Rule.{Rule}
 use Rattle.usage.specs.Forms.{covers}
-use Rattle.usage.specs.Tables.{any, tally}
+use Rattle.usage.specs.Tables.{tally}
 use Rattle.usage.specs.Slots.{Slot, changed, closing, counts, is_session, judged_at, holds, with_reason}
 use Rattle.usage.specs.Meter.{Meter, refused, with_slots}
 use Rattle.usage.specs.Rules.{is_key, rule_fits, rule_of}
@@ -28,7 +29,7 @@ overflows ceiling k d x s = holds (takes k d) s && nat_lt ceiling (count_of s.co
 abbrev pub carried : ℕ → Meter → Option Rule → ℕ → ℕ → Meter × Result ℕ Fault
 carried ceiling m None d x = refused m code.Rule
 carried ceiling m (Some r) d x =
-    cond (any (overflows ceiling r.key d x) m.slots) (refused m code.Ceiling)
+    cond (list_any (overflows ceiling r.key d x) m.slots) (refused m code.Ceiling)
     (with_slots m (map (raised_at r.key d x) m.slots), Ok (tally (holds (takes r.key d)) m.slots))
 
 abbrev pub packet_fits : ℕ → ℕ → ℕ → Bool
