@@ -1,5 +1,6 @@
-ghost use Rattle.std.specs.Prelude.{◌≡◌};
-ghost use Rattle.cli.specs.Words.{command_of};
+ghost use Rattle.std.specs.Prelude.{◌≡◌, IfOk};
+ghost use Rattle.std.specs.Process.{exit_status};
+ghost use Rattle.cli.specs.Words.{command_of, status_of};
 
 use crate::check::check;
 use crate::usage::USAGE;
@@ -30,7 +31,9 @@ impl Command {
     }
 
     /// Runs the command on the standard streams, and answers the status of the process.
-    pub fn run(self, rt: &HostRuntime) -> io::Result<ExitCode> {
+    pub fn run(self, rt: &HostRuntime) -> io::Result<ExitCode>
+        ensures { IfOk result (λ code. exit_status code ≡ status_of self) }
+    {
         match self {
             Command::Check => check(rt)?,
             Command::Help => rt.print(USAGE)?,
@@ -40,7 +43,9 @@ impl Command {
     }
 }
 
-fn unknown(rt: &HostRuntime) -> io::Result<ExitCode> {
+fn unknown(rt: &HostRuntime) -> io::Result<ExitCode>
+    ensures { IfOk result (λ code. exit_status code ≡ 1) }
+{
     rt.eprintln("gx: there is no such command")?;
     rt.print(USAGE)?;
     Ok(ExitCode::FAILURE)

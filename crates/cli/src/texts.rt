@@ -1,5 +1,6 @@
-ghost use Rattle.std.specs.Prelude.{◌≡◌};
-ghost use Rattle.cli.specs.Words.{text_command_of};
+ghost use Rattle.std.specs.Prelude.{◌≡◌, IfOk};
+ghost use Rattle.std.specs.Process.{exit_status};
+ghost use Rattle.cli.specs.Words.{Status, text_command_of};
 
 use crate::show::show;
 use crate::write::write;
@@ -28,7 +29,9 @@ impl TextCommand {
     }
 
     /// Runs the command on the standard streams, and answers the status of the process.
-    pub fn run(self, rt: &HostRuntime) -> io::Result<ExitCode> {
+    pub fn run(self, rt: &HostRuntime) -> io::Result<ExitCode>
+        ensures { IfOk result (λ code. Status self (exit_status code)) }
+    {
         match self {
             TextCommand::Show => {
                 show(rt)?;

@@ -1,4 +1,7 @@
 //! `gx write`: the octets of one message's text.
+ghost use Rattle.std.specs.Prelude.{◌≤◌, IfOk};
+ghost use Rattle.std.specs.Process.{exit_status};
+
 use crate::octets::write_message;
 use std::io::{BufRead, BufReader};
 use std::process::ExitCode;
@@ -35,7 +38,9 @@ impl From<io::Error> for ReadError {
 }
 
 // A text that is wrong gives the process a status that a script can test.
-pub(crate) fn write(rt: &HostRuntime) -> io::Result<ExitCode> {
+pub(crate) fn write(rt: &HostRuntime) -> io::Result<ExitCode>
+    ensures { IfOk result (λ code. exit_status code ≤ 1) }
+{
     match read(rt) {
         Ok(message) => {
             print(rt, &message)?;
