@@ -3,6 +3,7 @@ use Rattle.std.proofs.Common.{◌≡◌, ℕ, ◌+◌, ◌*◌, ◌<◌, ◌≤�
 use Rattle.std.proofs.lemmas.Bool.{cases_eq}
 use Rattle.std.proofs.lemmas.Bool.Decides.{nat_tests}
 use Rattle.fault.specs.declared.Code.TheVariants.{Ceiling}
+use Rattle.fault.specs.declared.Fault.{Fault}
 use Rattle.fault.specs.Numbers.{call_fault}
 use Rattle.bank.specs.declared.counts.Counts.{Counts}
 use Rattle.bank.specs.Meaning.{none, place_of, count_of, raised}
@@ -18,6 +19,16 @@ pub record Slot (p d k : ℕ) : Type 0 where
 
 pub slot_found : (p d k : ℕ) → slot_of p d ≡ Ok k → Slot p d k
 slot_found p d k e = record { place = grind (arith, nat_tests); way = grind (arith, nat_tests); slot = grind (arith, nat_tests) }
+
+-- no slot: the call is refused as the slot is, and leaves the counts
+pub add_nowhere : (top : ℕ) (cs : List Counts) (p d n : ℕ) (e : Fault) → slot_of p d ≡ Err e → added top cs p d n ≡ (cs, Err e)
+add_nowhere top cs p d n e h = grind (arith, nat_tests)
+
+pub take_nowhere : (cs : List Counts) (p : ℕ) (e : Fault) → slot_of p 0 ≡ Err e → taken_out cs p ≡ (cs, Err e)
+take_nowhere cs p e h = grind (arith, nat_tests)
+
+pub read_nowhere : (cs : List Counts) (p : ℕ) (e : Fault) → slot_of p 0 ≡ Err e → counts_at cs p ≡ Err e
+read_nowhere cs p e h = grind (arith, nat_tests)
 
 -- what the answer to an add tells
 pub record Done (top : ℕ) (cs : List Counts) (p d n : ℕ) : Type 0 where

@@ -4,6 +4,7 @@ use crate::octets::read_message;
 use std::alloc::Global;
 use std::io;
 use std::io::{BufWriter, Write};
+use text_trip::printed;
 
 pub(crate) fn show(rt: &HostRuntime) -> io::Result<()> {
     let heap = rt.alloc();
@@ -18,7 +19,10 @@ fn answer<W: Write>(out: &mut W, heap: Global, number: u64, line: &[u8]) -> io::
         return Ok(());
     };
     match read_message(request.kind, request.octets.as_slice()) {
-        Ok(message) => writeln!(out, "{message}"),
+        Ok(message) => {
+            let text = printed(&message);
+            writeln!(out, "{text}")
+        }
         Err(fault) => refuse(out, &request, fault),
     }
 }

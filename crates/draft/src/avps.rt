@@ -1,6 +1,6 @@
 ghost use Rattle.std.specs.Prelude.{◌≡◌, ◌<◌, length};
 ghost use Rattle.draft.specs.Drafts.{Put};
-ghost use Rattle.draft.specs.Octets.{be64, head, header_of, key_avp, number_avp, written};
+ghost use Rattle.draft.specs.Octets.{be64, head, header_of, key_avp, number_avp, vendor_header, written};
 
 use crate::draft::Draft;
 use avp::Name;
@@ -18,18 +18,26 @@ fn head(code: u32, flags: u8, size: u32) -> [u8; 8]
     ]
 }
 
+// The header of an AVP with a vendor, in one piece: it is written whole or not at all.
+fn vendor_header(code: u32, vendor: u32, size: u16) -> [u8; 12]
+    ensures { result ≡ vendor_header code vendor size }
+{
+    let head = head(code, 0x80, 12 + u32::from(size));
+    let vendor = vendor.to_be_bytes();
+    [
+        head[0], head[1], head[2], head[3], head[4], head[5], head[6], head[7], vendor[0],
+        vendor[1], vendor[2], vendor[3],
+    ]
+}
+
 impl Draft<'_> {
     /// The header of an AVP with so many octets of data.
     pub fn put_header(&mut self, avp: Name, size: u16) -> Result<(), Fault>
         ensures { Put self.old (header_of avp size) result self.new }
     {
-        let size = u32::from(size);
         match avp.vendor() {
-            None => self.put(&head(avp.code(), 0x40, 8 + size)),
-            Some(vendor) => {
-                self.put(&head(avp.code(), 0x80, 12 + size))?;
-                self.put(&vendor.to_be_bytes())
-            }
+            None => self.put(&head(avp.code(), 0x40, 8 + u32::from(size))),
+            Some(vendor) => self.put(&vendor_header(avp.code(), vendor, size)),
         }
     }
 

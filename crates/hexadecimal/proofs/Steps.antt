@@ -1,8 +1,7 @@
 -- A text that is read in part: the octets so far, a first digit that waits for its second, and the rest.
-use Rattle.std.proofs.Common.{◌≡◌, ℕ, ◌+◌, ◌*◌, ◌/◌, ◌%◌, ◌-◌, ◌^◌, false, arith, ◌<◌, ◌≤◌, cond, eqb, List, [], ◌∷◌, ◌++◌, length, get_or, drop, IfSome, Some, None, Ok, Err, Option, Result, sym, refl, ap, ◌∙◌, append_assoc, append-nil, ne_eqb}
-use Rattle.std.proofs.lemmas.Bool.Decides.{nat_tests}
-use Rattle.std.proofs.lemmas.Fmt.{hex_byte}
-use Rattle.std.specs.Fmt.{digit_glyph, digits as digits_in, format_spec, padded_integral}
+use Rattle.std.proofs.Common.{zero, suc, IsUtf8, IsAscii, ◌≡◌, ℕ, ◌+◌, ◌*◌, ◌/◌, ◌%◌, ◌-◌, ◌^◌, false, arith, ◌<◌, ◌≤◌, cond, eqb, List, [], ◌∷◌, ◌++◌, length, get_or, take, drop, IfSome, Some, None, Ok, Err, Option, Result, sym, refl, ap, ◌∙◌, append_assoc, append-nil, ne_eqb}
+use Rattle.std.proofs.Math.Seq.{take-length}
+use Rattle.std.proofs.lemmas.Str.{IsUtf8-from_ascii}
 use Rattle.std.proofs.lemmas.List.{at_drop_more, at_drop_all}
 use Rattle.hexadecimal.specs.declared.error.HexError.{HexError}
 use Rattle.hexadecimal.specs.declared.error.HexError.TheVariants.{NotADigit, Odd}
@@ -87,17 +86,36 @@ pub second_again : (done done' : List ℕ) (high high' : Option ℕ) (text : Lis
 second_again done done' high high' text i h d l ne e p q r w =
     rw (p, r) (second done text i h d _ l ne e (rw q at w.0), tt)
 
--- what is printed of an octet are its two letters
-glyph_letter : (d : ℕ) → d < 16 → digit_glyph false d ≡ letter_of d
-glyph_letter d l = grind (arith, nat_tests)
-
-pub octet_shown : (o : ℕ) → o < 256 → padded_integral (format_spec 32 0 4 2 (2 ^ 64 - 1)) false [] (digits_in 16 false o) ≡ letter_of (o / 16) ∷ letter_of (o % 16) ∷ []
-octet_shown o l =
-    let high : o / 16 < 16 = omega arith in
-    let low : o % 16 < 16 = omega arith in
-    hex_byte false o l ∙ (λ i. glyph_letter (o / 16) high i ∷ glyph_letter (o % 16) low i ∷ [])
-
--- they stand behind what was written
+-- its two letters stand behind what was written
 pub octet_more : (was : List ℕ) (octets : List ℕ) (i : ℕ) (whole : List ℕ) → i < length octets → was ++ text_of (drop i octets) ≡ whole
     → (was ++ (letter_of (get_or octets i 0 / 16) ∷ letter_of (get_or octets i 0 % 16) ∷ [])) ++ text_of (drop (i + 1) octets) ≡ whole
 octet_more was octets i whole lt w = append_assoc was _ _ ∙ sym (at_drop_more (λ os. was ++ text_of os) octets i 0 lt) ∙ w
+
+-- the letters of four octets likewise, where there are four
+pub four_more : (was : List ℕ) (os : List ℕ) (whole : List ℕ) → 4 ≤ length os → was ++ text_of os ≡ whole
+    → (was ++ text_of (get_or os 0 0 ∷ (get_or os 1 0 ∷ (get_or os 2 0 ∷ (get_or os 3 0 ∷ []))))) ++ text_of (take (length os - 4) (drop 4 os)) ≡ whole
+four_more was [] whole enough w = absurd (omega (arith, enough))
+four_more was (a ∷ []) whole enough w = absurd (omega (arith, enough))
+four_more was (a ∷ (b ∷ [])) whole enough w = absurd (omega (arith, enough))
+four_more was (a ∷ (b ∷ (c ∷ []))) whole enough w = absurd (omega (arith, enough))
+four_more was (a ∷ (b ∷ (c ∷ (d ∷ rest)))) whole enough w =
+    let left : length (a ∷ (b ∷ (c ∷ (d ∷ rest)))) - 4 ≡ length rest = omega arith in
+    ap (λ (k : ℕ). (was ++ text_of (a ∷ (b ∷ (c ∷ (d ∷ []))))) ++ text_of (take k rest)) left
+    ∙ ap (λ (r : List ℕ). (was ++ text_of (a ∷ (b ∷ (c ∷ (d ∷ []))))) ++ text_of r) (take-length rest)
+    ∙ append_assoc was (text_of (a ∷ (b ∷ (c ∷ (d ∷ []))))) (text_of rest)
+    ∙ w
+
+-- eight letters are ASCII, and so are text
+pub eight_text : (a b c d e f g h : ℕ) → a < 128 → b < 128 → c < 128 → d < 128 → e < 128 → f < 128 → g < 128 → h < 128
+    → IsUtf8 (a ∷ (b ∷ (c ∷ (d ∷ (e ∷ (f ∷ (g ∷ (h ∷ []))))))))
+eight_text a b c d e f g h pa pb pc pd pe pf pg ph = IsUtf8-from_ascii _ each where
+  each : IsAscii (a ∷ (b ∷ (c ∷ (d ∷ (e ∷ (f ∷ (g ∷ (h ∷ []))))))))
+  each zero = pa
+  each (suc zero) = pb
+  each (suc (suc zero)) = pc
+  each (suc (suc (suc zero))) = pd
+  each (suc (suc (suc (suc zero)))) = pe
+  each (suc (suc (suc (suc (suc zero))))) = pf
+  each (suc (suc (suc (suc (suc (suc zero)))))) = pg
+  each (suc (suc (suc (suc (suc (suc (suc zero))))))) = ph
+  each (suc (suc (suc (suc (suc (suc (suc (suc i)))))))) = omega arith

@@ -15,9 +15,10 @@ use key::Key;
 pub fn has_key<V: Entry>(groups: &[V], key: Option<Key>) -> bool
     ensures { result ≡ has_key V.Entry.keyed key groups.now }
 {
-    groups
-        .iter()
-        .any(|group| key.is_some() && group.key() == key)
+    groups.iter().any(|group| match (group.key(), key) {
+        (Some(one), Some(other)) => one.is(&other),
+        _ => false,
+    })
 }
 
 impl<V: Entry> Groups<V> {

@@ -4,12 +4,12 @@
 #![tactic(auto)]
 
 ghost use Rattle.std.specs.Prelude.{◌≡◌, ◌+◌, ◌*◌, ◌<◌, ◌++◌, length, is_ok, if◌then◌else◌, slice_index};
-ghost use Rattle.std.proofs.Common.{arith, lit≤};
-ghost use Rattle.bank.proofs.Places.{length-places, within_places};
+ghost use Rattle.std.proofs.Common.{lit≤};
 ghost use Rattle.bank.specs.Calls.{added, taken_out};
 ghost use Rattle.bank.specs.Meaning.{empty};
 ghost use Rattle.bank.specs.Stores.{Accepted, checked};
 ghost use Rattle.rolling_bank.specs.Rolling.{advanced, count_at, counters, counts_of, marked, meant};
+ghost use Rattle.rolling_bank.specs.Owed.{sixteen_counts, within_ceiling};
 
 use bank::{Bank, Counts, UPLINK, slot, store};
 use fault::{Code, Fault};
@@ -127,7 +127,7 @@ impl<'a> Bank for RollingBank<'a> {
 
     ghost most = { lit≤ tt };
 
-    ghost sixteen = { λ b. length-places (count_at b.words.now) };
+    ghost sixteen = { λ b. sixteen_counts b.words.now };
 
-    ghost within = { λ b. within_places 4294967295 (count_at b.words.now) (λ k. Prim.omega arith) };
+    ghost within = { λ b. within_ceiling b.words.now };
 }

@@ -7,6 +7,12 @@ use cli::TextCommand;
 use std::io;
 use std::process::ExitCode;
 
+// A text that is wrong is an error of this program too, and told as one behind the fault.
 fn main(rt: HostRuntime) -> io::Result<ExitCode> {
-    TextCommand::Write.run(&rt)
+    let code = TextCommand::Write.run(&rt)?;
+    if code == ExitCode::SUCCESS {
+        Ok(code)
+    } else {
+        Err(io::Error::from(io::ErrorKind::InvalidInput))
+    }
 }

@@ -8,17 +8,21 @@ use Rattle.group.specs.Members.{ended}
 use Rattle.key.specs.declared.key.Key.{Key}
 use Rattle.units.specs.Limits.{type_of, type_number}
 use Rattle.information.specs.declared.values.CommandGroup.{CommandGroup}
+use Rattle.information.specs.Report.{read_report_group}
+use Rattle.information.specs.Answer.{read_answer_group}
 use Rattle.information.specs.Command.{read_command_group}
-use Rattle.message.specs.Keyed.{command_key}
+use Rattle.message.specs.Keyed.{report_key, answer_key, command_key}
 use Rattle.message.specs.Numbered as numbered
 use Rattle.message.specs.Numbered.{Message, Partial}
 use Rattle.message.specs.Commands as commands
 use Rattle.draft.specs.Octets.{be32, written, number_avp}
-use Rattle.wire.specs.Octets.{group_avp, numbered_octets, command_data}
-use Rattle.trip.specs.Own.{Octets, OwnOrdered, OwnNumbered, numbered, CommandAgain}
+use Rattle.wire.specs.Octets.{group_avp, numbered_octets, report_data, answer_data, command_data}
+use Rattle.trip.specs.Own.{Octets, OwnOrdered, OwnNumbered, numbered, ReportAgain, AnswerAgain, CommandAgain}
 use Rattle.trip.specs.Laws.Parts.{left, right, data_of}
 use Rattle.trip.specs.Laws.Undo.{then_undo, cond_undo, opened}
 use Rattle.trip.specs.Laws.MembersAgain.{number_undo}
+use Rattle.trip.specs.Laws.ReportsAgain.{report_again}
+use Rattle.trip.specs.Laws.GrantsAgain.{answer_again}
 use Rattle.trip.specs.Laws.OrdersAgain.{command_again}
 use Rattle.trip.proofs.GroupsAgain.{Again, all_again}
 use Rattle.trip.proofs.Messages.{admits_by, orders_admit, then_ok, state}
@@ -57,6 +61,12 @@ numbered_again {V} {P} reads keyed octets back ok (numbered n t {gs} own) m e =
     ap (numbered_octets octets) (sym w)
     ∙ append_assoc (written CcRequestNumber (be32 b.0)) (written CcRequestType (be32 (type_number (type_of c.0)))) (flat_map (λ v. group_avp (octets v)) d.0)
     ∙ (λ i. written CcRequestNumber (b.1 i) ++ (written CcRequestType ((ap be32 (type_again c.0 (leb-true 2 c.0 bounds.0) (leb-true c.0 3 bounds.1)) ∙ c.1) i) ++ d.2 i))
+
+pub reports_again : ReportAgain
+reports_again bs ok own m e = numbered_again read_report_group report_key report_data (λ at place ds p o v h. report_again at place p o v h) ok own m e
+
+pub answers_again : AnswerAgain
+answers_again bs ok own m e = numbered_again read_answer_group answer_key answer_data (λ at place ds p o v h. answer_again at place p o v h) ok own m e
 
 pub commands_again : CommandAgain
 commands_again bs ok own vs e =

@@ -2,10 +2,13 @@
 -- What a number or a key holds is left open; whether it is sound is the reader's question.
 use Rattle.std.specs.Prelude.{◌≡◌, ℕ, ◌<◌, List, [], ◌++◌, length, Ok, slice_index}
 use Rattle.avp.specs.declared.name.Name.TheVariants.{CcRequestNumber, CcRequestType, CcInputOctets, CcOutputOctets, CcTotalOctets, GrantedServiceUnit, UsedServiceUnit, MonitoringKey, UsageMonitoringInformation, UsageMonitoringLevel, UsageMonitoringReport, UsageMonitoringSupport}
+use Rattle.information.specs.declared.values.ReportGroup.{ReportGroup}
+use Rattle.information.specs.declared.values.AnswerGroup.{AnswerGroup}
 use Rattle.information.specs.declared.values.CommandGroup.{CommandGroup}
+use Rattle.message.specs.Numbered.{Message, read_report, read_answer}
 use Rattle.message.specs.Commands.{read_command}
 use Rattle.draft.specs.Octets.{written}
-use Rattle.wire.specs.Octets.{command_octets}
+use Rattle.wire.specs.Octets.{answer_octets, command_octets, report_octets}
 
 pub data OwnUnits : List ℕ → Type 0 where
   total : (x : List ℕ) → OwnUnits (written CcTotalOctets x)
@@ -40,6 +43,12 @@ pub data OwnNumbered (P : List ℕ → Type 0) : List ℕ → Type 0 where
 pub record Octets (bs : List ℕ) : Type 0 where
   pub small : (i : ℕ) → slice_index bs i < 256
   pub short : length bs < 65536
+
+abbrev pub ReportAgain : Type 0
+ReportAgain = (bs : List ℕ) → Octets bs → OwnNumbered OwnReported bs → (m : Message ReportGroup) → read_report bs ≡ Ok m → report_octets m ≡ bs
+
+abbrev pub AnswerAgain : Type 0
+AnswerAgain = (bs : List ℕ) → Octets bs → OwnNumbered OwnAnswered bs → (m : Message AnswerGroup) → read_answer bs ≡ Ok m → answer_octets m ≡ bs
 
 abbrev pub CommandAgain : Type 0
 CommandAgain = (bs : List ℕ) → Octets bs → OwnGroups OwnOrdered bs → (vs : List CommandGroup) → read_command bs ≡ Ok vs → command_octets vs ≡ bs

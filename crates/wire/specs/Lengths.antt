@@ -1,6 +1,6 @@
 -- How many octets the parts of a message have.
-use Rattle.std.specs.Prelude.{◌≡◌, ℕ, ◌+◌, ◌-◌, ◌%◌, List, ◌++◌, length, Some, None, Option, refl}
-use Rattle.std.proofs.Common.{ap, ◌∙◌, arith, length-append}
+use Rattle.std.specs.Prelude.{◌≡◌, ℕ, ◌+◌, ◌-◌, ◌%◌, List, ◌++◌, length, replicate, Some, None, Option, refl}
+use Rattle.std.proofs.Common.{sym, ap, ◌∙◌, append-nil, arith, length-append}
 use Rattle.std.proofs.lemmas.List.{length-replicate}
 use Rattle.avp.specs.declared.name.Name.{Name}
 use Rattle.avp.specs.declared.name.Name.TheVariants.{MonitoringKey, UsedServiceUnit, GrantedServiceUnit, UsageMonitoringReport, UsageMonitoringSupport}
@@ -40,6 +40,15 @@ written_length n ds =
     ∙ ap (λ (k : ℕ). header_size (vendor_of n) + (length ds + k)) (length-replicate (padded (length ds) - length ds) 0)
     ∙ omega arith
 
+pub written_four : (n : Name) (ds : List ℕ) → length (written n ds) % 4 ≡ 0
+written_four n ds = omega (arith, written_length n ds, header_four (vendor_of n))
+
+-- data whose length is a multiple of 4 have no padding
+pub unpadded : (n : Name) (ds : List ℕ) → length ds % 4 ≡ 0 → header_of n (length ds) ++ ds ≡ written n ds
+unpadded n ds h =
+    let none : padded (length ds) - length ds ≡ 0 = omega arith in
+    ap (λ l. header_of n (length ds) ++ l) (sym (append-nil ds) ∙ ap (λ (k : ℕ). ds ++ replicate k 0) (sym none))
+
 pub units_four : (u : Units) → length (units_data u) % 4 ≡ 0
 units_four (Total t) = refl
 units_four (Uplink t) = refl
@@ -67,7 +76,7 @@ pub support_length : length (number_avp UsageMonitoringSupport 0) ≡ 16
 unfolding number_avp
 support_length = refl
 
-asked_length : length (number_avp UsageMonitoringReport 0) ≡ 16
+pub asked_length : length (number_avp UsageMonitoringReport 0) ≡ 16
 unfolding number_avp
 asked_length = refl
 

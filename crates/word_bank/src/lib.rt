@@ -4,10 +4,10 @@
 
 ghost use Rattle.std.specs.Prelude.{◌≡◌, ℕ, ◌+◌, ◌<◌, ◌≤◌, length, replicate, slice_index};
 ghost use Rattle.std.proofs.Common.{lit≤};
-ghost use Rattle.bank.proofs.Places.{length-places, within_places};
 ghost use Rattle.bank.specs.Meaning.{empty};
 ghost use Rattle.bank.specs.Stores.{Accepted, checked};
 ghost use Rattle.word_bank.specs.Words.{counts_of, meant};
+ghost use Rattle.word_bank.specs.Owed.{sixteen_counts, within_ceiling};
 
 use bank::{Bank, Counts, UPLINK, slot, store};
 use fault::{Code, Fault};
@@ -51,7 +51,8 @@ impl<'a> WordBank<'a> {
 
 // What two words count, an uplink and the downlink behind it.
 fn counts(words: &[u64; 32], slot: usize) -> Counts
-    requires { slot + 1 < 32 }
+    requires there { slot + 1 < 32 }
+    requires low { (slot : ℕ) → slice_index words.now slot ≤ 1099511627775 }
     ensures { result ≡ counts_of words.now slot }
 {
     Counts {
@@ -73,7 +74,7 @@ impl<'a> Bank for WordBank<'a> {
         Self::CEILING
     }
 
-    #[tactic(auto, using(bank::proofs::Steps::add_past, bank::proofs::Steps::count_found, crate::proofs::Writes::raises))]
+    #[tactic(auto, using(bank::proofs::Steps::count_found, crate::proofs::Writes::past, crate::proofs::Writes::raises))]
     fn add(&mut self, place: usize, direction: u64, octets: u64) -> Result<(), Fault> {
         let slot = slot(place, direction)?;
         if octets > Self::CEILING - self.words[slot] {
@@ -102,7 +103,7 @@ impl<'a> Bank for WordBank<'a> {
 
     ghost most = { lit≤ tt };
 
-    ghost sixteen = { λ b. length-places (slice_index b.words.now) };
+    ghost sixteen = { λ b. sixteen_counts b.words.now };
 
-    ghost within = { λ b. within_places 1099511627775 (slice_index b.words.now) b.low };
+    ghost within = { λ b. within_ceiling b.words.now };
 }
